@@ -1,0 +1,4 @@
+pub mod Items
+mod Rows
+pub mod Tokens
+pub mod Unique

@@ -1,0 +1,412 @@
+-- The C trees that a text holds: its items, and how a tree is spelled as tokens. The project's own profile of C
+-- (ISO/IEC 9899:2011).
+use Rattle.std.specs.Prelude.{◌≡◌, ℕ, zero, suc, ◌+◌, ◌^◌, ◌/◌, ◌%◌, ◌<◌, ◌≤◌, ◌||◌, List, [], ◌∷◌, ◌++◌, Bool, true, false, Option, Some, None, is_none, unwrap_or, nat_lt, nat_eq, if◌then◌else◌, codes, decimal, ⊤}
+use Rattle.std.specs.List.{flat_map, AllByRecursion}
+use Rattle.std.specs.Str.{bytes_eq}
+use Rattle.c_mach.specs.CTokens.{CToken, Word, Str, Sign, LineEnd, word, sign, is_word_byte, c_tokens}
+use Rattle.c_mach.specs.declared.space.BinaryOp.TheVariants as op
+use Rattle.c_mach.specs.declared.space.Exception.{Exception}
+use Rattle.c_mach.specs.declared.space.Exception.TheVariants as exception
+use Rattle.c_mach.specs.declared.tree.CType.{CType}
+use Rattle.c_mach.specs.declared.tree.CType.TheVariants as type
+use Rattle.c_mach.specs.declared.tree.Variable.{Variable}
+use Rattle.c_mach.specs.declared.tree.Variable.TheVariants as variable
+use Rattle.c_mach.specs.declared.tree.Place.{Place}
+use Rattle.c_mach.specs.declared.tree.Place.TheVariants as place
+use Rattle.c_mach.specs.declared.tree.FunctionName.{FunctionName}
+use Rattle.c_mach.specs.declared.tree.FunctionName.TheVariants as function
+use Rattle.c_mach.specs.declared.tree.ApiRow.{ApiRow}
+use Rattle.c_mach.specs.declared.tree.ApiRow.TheVariants as row
+use Rattle.c_mach.specs.declared.tree.CValue.{CValue}
+use Rattle.c_mach.specs.declared.tree.CValue.TheVariants as value
+use Rattle.c_mach.specs.declared.tree.Comparison.{Comparison}
+use Rattle.c_mach.specs.declared.tree.Comparison.TheVariants as comparison
+use Rattle.c_mach.specs.declared.tree.Target.{Target}
+use Rattle.c_mach.specs.declared.tree.Target.TheVariants as target
+use Rattle.c_mach.specs.declared.tree.CStmt.{CStmt}
+use Rattle.c_mach.specs.declared.tree.CStmt.TheVariants as stmt
+use Rattle.c_mach.specs.declared.tree.Line.{Line}
+use Rattle.c_mach.specs.declared.tree.Line.TheVariants as line
+use Rattle.c_mach.specs.declared.tree.InitialValue.{InitialValue}
+use Rattle.c_mach.specs.declared.tree.InitialValue.TheVariants as initial
+use Rattle.c_mach.specs.declared.tree.Declaration.{Declaration}
+use Rattle.c_mach.specs.declared.tree.Parameter.{Parameter}
+use Rattle.c_mach.specs.declared.tree.CHead.{CHead}
+use Rattle.c_mach.specs.declared.tree.CHead.TheVariants as head
+use Rattle.c_mach.specs.declared.tree.CFunction.{CFunction}
+use Rattle.c_mach.specs.declared.tree.MethodRow.{MethodRow}
+use Rattle.c_mach.specs.declared.tree.CItem.{CItem}
+use Rattle.c_mach.specs.declared.tree.CItem.TheVariants as item
+use Rattle.c_mach.specs.declared.tree.CFile.{CFile}
+
+-- ---- the items of a list of tokens
+
+-- what a token is to the cutting of items
+pub data Role : Type 0 where
+  Opens Closes Parenthesis Semicolon EndsLine Plain : Role
+
+abbrev pub role_of : CToken → Role
+role_of (Sign bytes) =
+    if bytes_eq bytes (codes "{") then Opens else
+    if bytes_eq bytes (codes "}") then Closes else
+    if bytes_eq bytes (codes ")") then Parenthesis else
+    if bytes_eq bytes (codes ";") then Semicolon else Plain
+role_of LineEnd = EndsLine
+role_of _ = Plain
+
+-- Where a token stands in its item: outside braces, right after a `)` or not; or in braces, within so many further ones,
+-- where the outermost was opened right after a `)` or not.
+pub data ItemPlace : Type 0 where
+  Outside : Bool → ItemPlace
+  Inside : ℕ → Bool → ItemPlace
+
+-- where an item begins
+abbrev pub item_start : ItemPlace
+item_start = Outside false
+
+-- the place after a token, or none where the token ends its item
+abbrev pub place_after : Role → ItemPlace → Option ItemPlace
+place_after EndsLine at = None
+place_after Semicolon (Outside closed) = None
+place_after Opens (Outside closed) = Some (Inside zero closed)
+place_after Parenthesis (Outside closed) = Some (Outside true)
+place_after _ (Outside closed) = Some (Outside false)
+place_after Opens (Inside depth body) = Some (Inside (suc depth) body)
+place_after Closes (Inside zero true) = None
+place_after Closes (Inside zero false) = Some (Outside false)
+place_after Closes (Inside (suc depth) body) = Some (Inside depth body)
+place_after _ (Inside depth body) = Some (Inside depth body)
+
+-- the items with a token before them: it is an item by itself where it ends one, else it begins the first
+abbrev pub with_token : Bool → CToken → List (List CToken) → List (List CToken)
+with_token true token items = (token ∷ []) ∷ items
+with_token false token [] = (token ∷ []) ∷ []
+with_token false token (first ∷ more) = (token ∷ first) ∷ more
+
+-- the items from a place on
+unfoldable pub items_from : ItemPlace → List CToken → List (List CToken)
+items_from at [] = []
+items_from at (token ∷ tokens) =
+    let next = place_after (role_of token) at in
+    with_token (is_none next) token (items_from (unwrap_or next item_start) tokens)
+
+-- The items of a list of tokens. An item ends at the end of a preprocessor line, at a `;` outside braces, or at the `}`
+-- of outermost braces that were opened right after a `)`; what is left at the end is a last item.
+unfoldable pub c_items : List CToken → List (List CToken)
+unfolding items_from
+c_items tokens = items_from item_start tokens
+
+-- ---- the spelling of trees
+
+-- the spellings, with a comma between them
+abbrev pub listed_spelling : {A : Type 0} → (A → List CToken) → List A → List CToken
+listed_spelling spell [] = []
+listed_spelling spell (first ∷ more) = spell first ++ flat_map (λ x. sign "," ∷ spell x) more
+
+abbrev pub type_spelling : CType → List CToken
+type_spelling type.Int = word "int" ∷ []
+type_spelling type.PySsizeT = word "Py_ssize_t" ∷ []
+type_spelling type.PyObject = word "PyObject" ∷ sign "*" ∷ []
+
+-- letters and a decimal number
+abbrev pub lettered_name : List ℕ → ℕ → List ℕ
+lettered_name letters j = letters ++ decimal j
+
+-- letters, the number of a module, `_` and the number of what it is in the module
+abbrev pub numbered_name : List ℕ → ℕ → ℕ → List ℕ
+numbered_name letters m k = letters ++ (decimal m ++ (codes "_" ++ decimal k))
+
+abbrev pub variable_name : Variable → List ℕ
+variable_name (variable.Parameter j) = lettered_name (codes "p") j
+variable_name (variable.Local j) = lettered_name (codes "v") j
+variable_name (variable.Temporary j) = lettered_name (codes "t") j
+variable_name variable.Returned = codes "r"
+variable_name variable.SelfObject = codes "self"
+variable_name variable.Arguments = codes "args"
+variable_name variable.ArgumentCount = codes "nargs"
+
+abbrev pub place_name : Place → List ℕ
+place_name place.Module = codes "cyc_m"
+place_name place.Dictionary = codes "cyc_d"
+place_name place.Builtins = codes "cyc_b"
+place_name place.Ready = codes "cyc_r"
+place_name (place.Constant j) = lettered_name (codes "cyc_c_") j
+place_name (place.Global j) = lettered_name (codes "cyc_g_") j
+
+abbrev pub function_name : FunctionName → List ℕ
+function_name (function.Plain m k) = numbered_name (codes "cyc_f_") m k
+function_name (function.Wrapper m k) = numbered_name (codes "cyc_w_") m k
+function_name (function.Initializer name) = codes "PyInit_" ++ name
+
+abbrev pub row_name : ApiRow → List ℕ
+row_name (row.Number op.Add) = codes "PyNumber_Add"
+row_name row.ModuleCreate = codes "PyModule_Create"
+row_name row.ModuleGetDict = codes "PyModule_GetDict"
+row_name row.ImportModule = codes "PyImport_ImportModule"
+row_name row.ErrSetString = codes "PyErr_SetString"
+
+abbrev pub exception_name : Exception → List ℕ
+exception_name exception.BaseException = codes "PyExc_BaseException"
+exception_name exception.TypeError = codes "PyExc_TypeError"
+exception_name exception.NotImplementedError = codes "PyExc_NotImplementedError"
+exception_name exception.OverflowError = codes "PyExc_OverflowError"
+exception_name exception.ZeroDivisionError = codes "PyExc_ZeroDivisionError"
+exception_name exception.ValueError = codes "PyExc_ValueError"
+exception_name exception.IndexError = codes "PyExc_IndexError"
+exception_name exception.AttributeError = codes "PyExc_AttributeError"
+exception_name exception.SystemError = codes "PyExc_SystemError"
+exception_name exception.NameError = codes "PyExc_NameError"
+exception_name exception.UnboundLocalError = codes "PyExc_UnboundLocalError"
+
+-- a byte in a string: a printable one, or a backslash and three octal digits (ISO/IEC 9899:2011 6.4.4.4)
+abbrev pub quoted_byte : ℕ → List ℕ
+quoted_byte b =
+    if (nat_lt b 32 || nat_lt 126 b) || (nat_eq b 34 || nat_eq b 92)
+    then 92 ∷ (48 + b / 64) ∷ (48 + b / 8 % 8) ∷ (48 + b % 8) ∷ []
+    else b ∷ []
+
+abbrev pub string_spelling : List ℕ → CToken
+string_spelling bytes = Str (flat_map quoted_byte bytes)
+
+abbrev pub variable_spelling : Variable → CToken
+variable_spelling x = Word (variable_name x)
+
+abbrev pub value_spelling : CValue → List CToken
+value_spelling (value.Variable x) = variable_spelling x ∷ []
+value_spelling (value.Place x) = Word (place_name x) ∷ []
+value_spelling (value.Argument j) = word "args" ∷ sign "[" ∷ Word (decimal j) ∷ sign "]" ∷ []
+value_spelling (value.Int n) = Word (decimal n) ∷ []
+value_spelling (value.Str bytes) = string_spelling bytes ∷ []
+value_spelling value.Null = word "NULL" ∷ []
+value_spelling (value.ExceptionType e) = Word (exception_name e) ∷ []
+value_spelling value.Definition = sign "&" ∷ word "cyc_def" ∷ []
+
+abbrev pub comparison_spelling : Comparison → CToken
+comparison_spelling comparison.Equal = sign "=="
+comparison_spelling comparison.NotEqual = sign "!="
+
+abbrev pub target_spelling : Target → CToken
+target_spelling (target.Variable x) = variable_spelling x
+target_spelling (target.Place x) = Word (place_name x)
+
+-- `x =` before a call, or nothing
+abbrev pub destination_spelling : Option Variable → List CToken
+destination_spelling None = []
+destination_spelling (Some x) = variable_spelling x ∷ sign "=" ∷ []
+
+abbrev pub call_spelling : List ℕ → List CValue → List CToken
+call_spelling name values =
+    Word name ∷ sign "(" ∷ (listed_spelling value_spelling values ++ (sign ")" ∷ sign ";" ∷ []))
+
+abbrev pub label_spelling : ℕ → CToken
+label_spelling label = Word (lettered_name (codes "L") label)
+
+abbrev pub goto_spelling : ℕ → List CToken
+goto_spelling label = word "goto" ∷ label_spelling label ∷ sign ";" ∷ []
+
+-- a statement
+abbrev pub statement_spelling : CStmt → List CToken
+statement_spelling (stmt.Assign x v) = target_spelling x ∷ sign "=" ∷ (value_spelling v ++ (sign ";" ∷ []))
+statement_spelling (stmt.Api x f values) = destination_spelling x ++ call_spelling (row_name f) values
+statement_spelling (stmt.Call x f values) = destination_spelling x ++ call_spelling (function_name f) values
+statement_spelling (stmt.Incref v) =
+    word "Py_INCREF" ∷ sign "(" ∷ (value_spelling v ++ (sign ")" ∷ sign ";" ∷ []))
+statement_spelling (stmt.Decref v) =
+    word "Py_DECREF" ∷ sign "(" ∷ (value_spelling v ++ (sign ")" ∷ sign ";" ∷ []))
+statement_spelling (stmt.GotoIf a c b label) =
+    word "if" ∷ sign "(" ∷ (value_spelling a ++ (comparison_spelling c ∷ (value_spelling b ++ (sign ")" ∷ goto_spelling label))))
+statement_spelling (stmt.Goto label) = goto_spelling label
+statement_spelling (stmt.Return v) = word "return" ∷ (value_spelling v ++ (sign ";" ∷ []))
+
+abbrev pub line_spelling : Line → List CToken
+line_spelling (line.Label label) = label_spelling label ∷ sign ":" ∷ []
+line_spelling (line.Statement s) = statement_spelling s
+
+abbrev pub initial_spelling : InitialValue → List CToken
+initial_spelling initial.Nothing = sign ";" ∷ []
+initial_spelling initial.Null = sign "=" ∷ word "NULL" ∷ sign ";" ∷ []
+initial_spelling initial.Zero = sign "=" ∷ word "0" ∷ sign ";" ∷ []
+
+abbrev pub declaration_spelling : Declaration → List CToken
+declaration_spelling d = type_spelling d.kind ++ (variable_spelling d.variable ∷ initial_spelling d.initial)
+
+abbrev pub parameter_spelling : Parameter → List CToken
+parameter_spelling p = type_spelling p.kind ++ (variable_spelling (variable.Parameter p.number) ∷ [])
+
+-- what stands between the brackets of a head or a prototype: the tokens, or `void` where there are none
+abbrev pub void_or : List CToken → List CToken
+void_or [] = word "void" ∷ []
+void_or (token ∷ more) = token ∷ more
+
+-- a result type, the name of a C function and what stands between its brackets
+abbrev pub plain_head_spelling : CType → ℕ → ℕ → List CToken → List CToken
+plain_head_spelling kind m k between =
+    type_spelling kind ++ (Word (numbered_name (codes "cyc_f_") m k) ∷ sign "(" ∷ (void_or between ++ (sign ")" ∷ [])))
+
+abbrev pub head_spelling : CHead → List CToken
+head_spelling (head.Plain m k kind parameters) =
+    plain_head_spelling kind m k (listed_spelling parameter_spelling parameters)
+head_spelling (head.Wrapper m k) =
+    c_tokens (codes "static PyObject *")
+    ++ (Word (numbered_name (codes "cyc_w_") m k) ∷ c_tokens (codes "(PyObject *self, PyObject *const *args, Py_ssize_t nargs)"))
+head_spelling (head.Initializer name) =
+    word "PyMODINIT_FUNC" ∷ Word (codes "PyInit_" ++ name) ∷ c_tokens (codes "(void)")
+
+abbrev pub body_spelling : CFunction → List CToken
+body_spelling f =
+    sign "{" ∷ (flat_map declaration_spelling f.declarations ++ (flat_map line_spelling f.lines ++ (sign "}" ∷ [])))
+
+-- a row of the method table, with the comma after it
+abbrev pub method_spelling : MethodRow → List CToken
+method_spelling m =
+    sign "{" ∷ string_spelling m.name ∷ (c_tokens (codes ", (PyCFunction)(void (*)(void))")
+    ++ (Word (numbered_name (codes "cyc_w_") m.module m.index) ∷ c_tokens (codes ", METH_FASTCALL, NULL},")))
+
+-- the tokens of a tree
+unfoldable pub spelling : CItem → List CToken
+unfolding c_tokens
+spelling item.DefineClean = c_tokens (codes "#define PY_SSIZE_T_CLEAN")
+spelling item.IncludePython = c_tokens (codes "#include <Python.h>")
+spelling item.IncludeSet = c_tokens (codes "#include \"cyc_set.h\"")
+spelling item.ViewType =
+    c_tokens (codes "typedef struct { PyObject *mv; char *buf; Py_ssize_t n[3]; Py_ssize_t s[3]; } cyc_view;")
+spelling item.RootStruct = c_tokens (codes "struct cyc_root { PyObject_HEAD const void *vt; };")
+spelling item.FormatTest =
+    c_tokens (codes "static int cyc_fmt(const char *f, const char *set)")
+    ++ (c_tokens (codes "{ if (f == NULL) f = \"B\";")
+    ++ (c_tokens (codes "if (f[0] == '@') f = f + 1;")
+    ++ (c_tokens (codes "return f[0] != 0 && f[1] == 0 && strchr(set, f[0]) != NULL;") ++ c_tokens (codes "}"))))
+spelling (item.Prototype kind m k kinds) =
+    plain_head_spelling kind m k (listed_spelling type_spelling kinds) ++ (sign ";" ∷ [])
+spelling (item.Static kind x) = word "static" ∷ (type_spelling kind ++ (Word (place_name x) ∷ sign ";" ∷ []))
+spelling (item.Function f) = head_spelling f.head ++ body_spelling f
+spelling (item.Methods rows) =
+    c_tokens (codes "static PyMethodDef cyc_md[] = {")
+    ++ (flat_map method_spelling rows ++ c_tokens (codes "{NULL, NULL, 0, NULL} };"))
+spelling (item.ModuleDefinition name) =
+    c_tokens (codes "static struct PyModuleDef cyc_def = { PyModuleDef_HEAD_INIT,")
+    ++ (string_spelling name ∷ c_tokens (codes ", NULL, -1, cyc_md };"))
+
+-- ---- trees in form
+
+-- a number that names a module, a place in it, a variable, a place or a label
+abbrev pub IsNumberInForm : ℕ → Type 0
+IsNumberInForm n = n < 2 ^ 32
+
+-- the bytes of a string
+abbrev pub IsStringInForm : List ℕ → Type 0
+IsStringInForm bytes = AllByRecursion (λ b. b < 256) bytes
+
+-- the name that an initialiser ends with: letters, digits and `_`
+abbrev pub IsNameInForm : List ℕ → Type 0
+IsNameInForm name = AllByRecursion (λ b. is_word_byte b ≡ true) name
+
+abbrev pub IsVariableInForm : Variable → Type 0
+IsVariableInForm (variable.Parameter j) = IsNumberInForm j
+IsVariableInForm (variable.Local j) = IsNumberInForm j
+IsVariableInForm (variable.Temporary j) = IsNumberInForm j
+IsVariableInForm variable.Returned = ⊤
+IsVariableInForm variable.SelfObject = ⊤
+IsVariableInForm variable.Arguments = ⊤
+IsVariableInForm variable.ArgumentCount = ⊤
+
+abbrev pub IsPlaceInForm : Place → Type 0
+IsPlaceInForm place.Module = ⊤
+IsPlaceInForm place.Dictionary = ⊤
+IsPlaceInForm place.Builtins = ⊤
+IsPlaceInForm place.Ready = ⊤
+IsPlaceInForm (place.Constant j) = IsNumberInForm j
+IsPlaceInForm (place.Global j) = IsNumberInForm j
+
+abbrev pub IsFunctionNameInForm : FunctionName → Type 0
+IsFunctionNameInForm (function.Plain m k) = IsNumberInForm m × IsNumberInForm k
+IsFunctionNameInForm (function.Wrapper m k) = IsNumberInForm m × IsNumberInForm k
+IsFunctionNameInForm (function.Initializer name) = IsNameInForm name
+
+-- an operand; an integer literal without suffix is an `int` of at most 2147483647 (ISO/IEC 9899:2011 6.4.4.1)
+abbrev pub IsValueInForm : CValue → Type 0
+IsValueInForm (value.Variable x) = IsVariableInForm x
+IsValueInForm (value.Place x) = IsPlaceInForm x
+IsValueInForm (value.Argument j) = IsNumberInForm j
+IsValueInForm (value.Int n) = n ≤ 2147483647
+IsValueInForm (value.Str bytes) = IsStringInForm bytes
+IsValueInForm value.Null = ⊤
+IsValueInForm (value.ExceptionType e) = ⊤
+IsValueInForm value.Definition = ⊤
+
+abbrev pub IsTargetInForm : Target → Type 0
+IsTargetInForm (target.Variable x) = IsVariableInForm x
+IsTargetInForm (target.Place x) = IsPlaceInForm x
+
+abbrev pub IsDestinationInForm : Option Variable → Type 0
+IsDestinationInForm None = ⊤
+IsDestinationInForm (Some x) = IsVariableInForm x
+
+abbrev pub IsStatementInForm : CStmt → Type 0
+IsStatementInForm (stmt.Assign x v) = IsTargetInForm x × IsValueInForm v
+IsStatementInForm (stmt.Api x f values) = IsDestinationInForm x × AllByRecursion IsValueInForm values
+IsStatementInForm (stmt.Call x f values) =
+    IsDestinationInForm x × IsFunctionNameInForm f × AllByRecursion IsValueInForm values
+IsStatementInForm (stmt.Incref v) = IsValueInForm v
+IsStatementInForm (stmt.Decref v) = IsValueInForm v
+IsStatementInForm (stmt.GotoIf a c b label) = IsValueInForm a × IsValueInForm b × IsNumberInForm label
+IsStatementInForm (stmt.Goto label) = IsNumberInForm label
+IsStatementInForm (stmt.Return v) = IsValueInForm v
+
+abbrev pub IsLineInForm : Line → Type 0
+IsLineInForm (line.Label label) = IsNumberInForm label
+IsLineInForm (line.Statement s) = IsStatementInForm s
+
+abbrev pub IsDeclarationInForm : Declaration → Type 0
+IsDeclarationInForm d = IsVariableInForm d.variable
+
+abbrev pub IsParameterInForm : Parameter → Type 0
+IsParameterInForm p = IsNumberInForm p.number
+
+abbrev pub IsHeadInForm : CHead → Type 0
+IsHeadInForm (head.Plain m k kind parameters) =
+    IsNumberInForm m × IsNumberInForm k × AllByRecursion IsParameterInForm parameters
+IsHeadInForm (head.Wrapper m k) = IsNumberInForm m × IsNumberInForm k
+IsHeadInForm (head.Initializer name) = IsNameInForm name
+
+abbrev pub IsFunctionInForm : CFunction → Type 0
+IsFunctionInForm f =
+    IsHeadInForm f.head × AllByRecursion IsDeclarationInForm f.declarations × AllByRecursion IsLineInForm f.lines
+
+abbrev pub IsMethodInForm : MethodRow → Type 0
+IsMethodInForm m = IsStringInForm m.name × IsNumberInForm m.module × IsNumberInForm m.index
+
+-- a tree of the profile
+unfoldable pub IsItemInForm : CItem → Type 0
+IsItemInForm item.DefineClean = ⊤
+IsItemInForm item.IncludePython = ⊤
+IsItemInForm item.IncludeSet = ⊤
+IsItemInForm item.ViewType = ⊤
+IsItemInForm item.RootStruct = ⊤
+IsItemInForm item.FormatTest = ⊤
+IsItemInForm (item.Prototype kind m k kinds) = IsNumberInForm m × IsNumberInForm k
+IsItemInForm (item.Static kind x) = IsPlaceInForm x
+IsItemInForm (item.Function f) = IsFunctionInForm f
+IsItemInForm (item.Methods rows) = AllByRecursion IsMethodInForm rows
+IsItemInForm (item.ModuleDefinition name) = IsStringInForm name
+
+-- a file whose items are trees of the profile
+unfoldable pub IsFileInForm : CFile → Type 0
+IsFileInForm file = AllByRecursion IsItemInForm file.items
+
+-- ---- the reading
+
+-- The trees that items spell, up to the end or to the first item that no tree spells; the last part says whether it is
+-- the end.
+unfoldable pub IsReading : List (List CToken) → List CItem → Bool → Type 0
+IsReading [] [] whole = whole ≡ true
+IsReading [] (tree ∷ trees) whole = ⊥
+IsReading (tokens ∷ items) (tree ∷ trees) whole =
+    IsItemInForm tree × (spelling tree ≡ tokens) × IsReading items trees whole
+IsReading (tokens ∷ items) [] whole =
+    (whole ≡ false) × ((tree : CItem) → IsItemInForm tree → spelling tree ≡ tokens → ⊥)
+
+-- the C trees that a text holds, and whether it holds nothing else
+unfoldable pub c_reading : List ℕ → List CItem → Bool → Type 0
+unfolding c_tokens c_items IsReading
+c_reading text trees whole = IsReading (c_items (c_tokens text)) trees whole

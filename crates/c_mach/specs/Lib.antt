@@ -1,0 +1,2 @@
+pub mod CReading
+pub mod CTokens

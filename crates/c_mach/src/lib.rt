@@ -1,0 +1,16 @@
+//! C trees of the profile, the object space, and the machine that runs such C over a script.
+#![tactic(auto)]
+
+mod bytes;
+mod space;
+mod tree;
+
+pub use bytes::Bytes;
+pub use space::{
+    Allocation, Answer, BinaryOp, Callee, ClassName, Entry, Event, Exception, FunctionPath, Info,
+    MemberPath, NumberType, Obj, Op,
+};
+pub use tree::{
+    ApiRow, CFile, CFunction, CHead, CItem, CStmt, CType, CValue, Comparison, Declaration,
+    FunctionName, InitialValue, Line, MethodRow, Parameter, Place, Target, Variable,
+};

@@ -1,0 +1,6 @@
+pub mod Answers
+pub mod Counts
+pub mod Disk
+pub mod Memory
+pub mod Store
+pub mod Told

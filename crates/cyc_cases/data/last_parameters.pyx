@@ -1,0 +1,1 @@
+def f(a, b, c): return c + b

@@ -1,0 +1,1 @@
+def int(a, b): return a + b

@@ -1,0 +1,1 @@
+def _(x, y, z): return y + z

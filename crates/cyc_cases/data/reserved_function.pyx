@@ -1,0 +1,1 @@
+def while(a, b): return a + b

@@ -1,0 +1,1 @@
+def f(a, b): return a + c

@@ -1,0 +1,1 @@
+def twice(a, b): return b + b

@@ -1,0 +1,1 @@
+def f(int a, b): return a + b

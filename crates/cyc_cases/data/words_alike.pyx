@@ -1,0 +1,1 @@
+def defs(Int, ints, selfs, None_): return None_ + ints

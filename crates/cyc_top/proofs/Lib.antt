@@ -1,0 +1,5 @@
+pub mod Names
+pub mod Writes
+pub mod Reading
+pub mod Built
+pub mod ReadsBack

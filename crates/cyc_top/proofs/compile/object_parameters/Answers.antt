@@ -1,0 +1,13 @@
+use Rattle.std.proofs.Common.{ℕ, ◌∷◌, [], ◌++◌, List, sym, ap, ◌∙◌, zero-add}
+use Rattle.std.proofs.lemmas.List.FromFn.{map-range_with_len_more}
+use Rattle.c_mach.specs.declared.Parameter.{Parameter}
+use Rattle.c_mach.specs.declared.CValue.TheVariants as value
+use Rattle.cyc_top.specs.ThinC.{object_parameter}
+use Rattle.cyc_top.proofs.compile.object_parameters.Goals as goal
+
+pub loop-number-preserved : goal.loop-number-preserved
+loop-number-preserved c =
+    let n = c.loop-number.number in
+    c.in_ok-push.ensures.items
+    ∙ ap (λ (xs : List Parameter). xs ++ object_parameter n ∷ []) c.loop-number.invariant
+    ∙ sym (map-range_with_len_more object_parameter 0 n n (zero-add n))

@@ -1,0 +1,74 @@
+-- What a build leaves among the files. The project's own.
+use Rattle.std.specs.Prelude.{◌≡◌, ◌≢◌, ◌⊎◌, ℕ, List, ◌++◌, length, codes, Option, Some, IfSome, IsSomeAnd}
+use Rattle.cy_io.specs.Told.{FileMap, BothTold, SameElsewhere, IsWritten}
+use Rattle.cy_mean.specs.declared.ThinFunction.{ThinFunction}
+use Rattle.cyc_top.specs.CText.{file_text}
+use Rattle.cyc_top.specs.Thin.{IsThin, thin_text}
+use Rattle.cyc_top.specs.ThinC.{header_items, module_items}
+
+-- the names of the two outputs of a module
+abbrev pub header_name : List ℕ
+header_name = codes "cyc_set.h"
+
+abbrev pub c_name : List ℕ → List ℕ
+c_name module_name = module_name ++ codes ".c"
+
+-- the texts of the two outputs
+unfoldable pub header_text : ThinFunction → List ℕ
+header_text thin = file_text (record { items = header_items (length thin.parameters) })
+
+unfoldable pub module_text : List ℕ → ThinFunction → List ℕ
+module_text module_name thin = file_text (record { items = module_items module_name thin })
+
+-- both outputs stand, and every other name has what it had
+pub record AreWritten (header name text : List ℕ) (before after : FileMap) : Type 0 where
+  pub header_is : after header_name ≡ Some header
+  pub module_is : after name ≡ Some text
+  pub others : (other : List ℕ) → other ≢ header_name → other ≢ name → after other ≡ before other
+
+-- the header stands, the module's file may hold anything, and every other name has what it had
+pub record IsHalfWritten (header name : List ℕ) (before after : FileMap) : Type 0 where
+  pub header_is : after header_name ≡ Some header
+  pub others : (other : List ℕ) → other ≢ header_name → other ≢ name → after other ≡ before other
+
+-- the first of the outputs stand, the one that failed may hold anything, and every other name has what it had
+abbrev pub ArePartlyWritten : List ℕ → List ℕ → FileMap → FileMap → Type 0
+ArePartlyWritten header name before after =
+    SameElsewhere header_name before after ⊎ IsHalfWritten header name before after
+
+-- nothing is written, or the header alone
+abbrev pub IsAsBeforeOrHeader : List ℕ → Option FileMap → Option FileMap → Type 0
+IsAsBeforeOrHeader header before after =
+    (after ≡ before) ⊎ BothTold before after (IsWritten header_name header)
+
+-- where files are told, this one has this text
+abbrev pub Spells : Option FileMap → List ℕ → List ℕ → Type 0
+Spells told word text = IfSome told (λ files. files word ≡ Some text)
+
+-- files are told, and this one has this text
+abbrev pub Tells : Option FileMap → List ℕ → List ℕ → Type 0
+Tells told word text = IsSomeAnd told (λ files. files word ≡ Some text)
+
+-- where files are told, this one is there and isn't thin
+abbrev pub IsUnthin : Option FileMap → List ℕ → Type 0
+IsUnthin told word =
+    IfSome told (λ files. IsSomeAnd (files word) (λ text. (thin : ThinFunction) → IsThin thin → text ≢ thin_text thin))
+
+-- the thin function that a file spells stands in both outputs
+abbrev pub IsBuilt : List ℕ → List ℕ → Option FileMap → Option FileMap → Type 0
+IsBuilt word module_name before after =
+    (thin : ThinFunction) × IsThin thin × Spells before word (thin_text thin)
+    × BothTold before after (AreWritten (header_text thin) (c_name module_name) (module_text module_name thin))
+
+-- the first of these outputs stand, and the one that failed may hold anything
+abbrev pub IsPartlyBuilt : List ℕ → List ℕ → Option FileMap → Option FileMap → Type 0
+IsPartlyBuilt word module_name before after =
+    (thin : ThinFunction) × IsThin thin × Spells before word (thin_text thin)
+    × BothTold before after (ArePartlyWritten (header_text thin) (c_name module_name))
+
+-- nothing is written, or the header of the thin function that the file spells
+abbrev pub IsAtMostHeader : List ℕ → Option FileMap → Option FileMap → Type 0
+IsAtMostHeader word before after =
+    (after ≡ before)
+    ⊎ ((thin : ThinFunction) × IsThin thin × Spells before word (thin_text thin)
+    × BothTold before after (IsWritten header_name (header_text thin)))

@@ -1,0 +1,6 @@
+pub mod Build
+pub mod Command
+pub mod CText
+pub mod Thin
+pub mod ThinC
+pub mod Statuses
