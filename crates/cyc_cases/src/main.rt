@@ -2,6 +2,9 @@
 //! what it answers and what it leaves. The expected lines stand in the file `stdout`.
 #![tactic(auto)]
 
+#[cfg(test)]
+mod tests;
+
 use anyhow::{Result, anyhow};
 use cy_io::{SureFiles, SureSink};
 use cyc_top::cyc;

@@ -2,4 +2,5 @@ pub mod Names
 pub mod Writes
 pub mod Reading
 pub mod Built
-pub mod ReadsBack
+pub mod InForm
+pub mod Held

@@ -1,11 +1,11 @@
 -- What a read of a file says of a thin text.
-use Rattle.std.proofs.Common.{◌≡◌, ◌≢◌, ℕ, ◌+◌, ◌*◌, ◌<◌, ◌≤◌, ◌++◌, List, [], ◌∷◌, suc, Option, Some, None, length, take, ap, sym, ◌∙◌, arith, length-append, codes}
+use Rattle.std.proofs.Common.{◌≡◌, ◌≢◌, ℕ, ◌*◌, ◌<◌, ◌≤◌, ◌++◌, List, [], ◌∷◌, suc, Option, Some, None, length, take, ap, sym, ◌∙◌, arith, length-append, codes}
 use Rattle.std.proofs.lemmas.List.Elements.{All-contains}
 use Rattle.std.specs.Prelude.{MatchOption, All, Contains, IfSome, IsSomeAnd}
 use Rattle.std.proofs.lemmas.List.{take_all, length-take}
 use Rattle.cy_io.specs.Told.{FileMap}
 use Rattle.cy_mean.specs.declared.ThinFunction.{ThinFunction}
-use Rattle.cyc_top.specs.Thin.{IsThin, IsName, IsParameterName, joined, thin_text}
+use Rattle.cyc_top.specs.Thin.{IsThin, IsParameterName, joined, thin_text}
 use Rattle.cyc_top.specs.Build.{Spells, Tells, IsUnthin}
 
 abbrev pub limit : ℕ

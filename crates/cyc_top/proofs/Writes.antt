@@ -1,7 +1,7 @@
 -- Two writes, one after the other.
-use Rattle.std.proofs.Common.{◌≡◌, ◌≢◌, ℕ, ◌++◌, List, [], ◌∷◌, Option, Some, None, ◌∙◌, sym, inl, inr}
+use Rattle.std.proofs.Common.{◌≢◌, ℕ, List, Option, Some, None, ◌∙◌, sym, inr}
 use Rattle.cy_io.specs.Told.{FileMap, BothTold, SameElsewhere, IsWritten}
-use Rattle.cyc_top.specs.Build.{header_name, c_name, AreWritten, IsHalfWritten, ArePartlyWritten}
+use Rattle.cyc_top.specs.Build.{header_name, AreWritten, IsHalfWritten, ArePartlyWritten}
 
 both : (header name text : List ℕ) (a b c : FileMap) → name ≢ header_name → IsWritten header_name header a b → IsWritten name text b c → AreWritten header name text a c
 both header name text a b c apart first second = record {

@@ -1,10 +1,12 @@
 -- What a build leaves among the files. The project's own.
-use Rattle.std.specs.Prelude.{◌≡◌, ◌≢◌, ◌⊎◌, ℕ, List, ◌++◌, length, codes, Option, Some, IfSome, IsSomeAnd}
+use Rattle.std.specs.Prelude.{◌≡◌, ◌≢◌, ◌⊎◌, ℕ, List, [], ◌∷◌, ◌++◌, length, codes, Option, Some, IfSome, IsSomeAnd, true}
+use Rattle.c_mach.specs.CReading.{c_reading}
+use Rattle.c_mach.specs.declared.CFile.{CFile}
 use Rattle.cy_io.specs.Told.{FileMap, BothTold, SameElsewhere, IsWritten}
 use Rattle.cy_mean.specs.declared.ThinFunction.{ThinFunction}
-use Rattle.cyc_top.specs.CText.{file_text}
+use Rattle.c_print.specs.CText.{file_text}
 use Rattle.cyc_top.specs.Thin.{IsThin, thin_text}
-use Rattle.cyc_top.specs.ThinC.{header_items, module_items}
+use Rattle.cyc_top.specs.ThinC.{header_items, module_items, thin_files}
 
 -- the names of the two outputs of a module
 abbrev pub header_name : List ℕ
@@ -59,6 +61,20 @@ abbrev pub IsBuilt : List ℕ → List ℕ → Option FileMap → Option FileMap
 IsBuilt word module_name before after =
     (thin : ThinFunction) × IsThin thin × Spells before word (thin_text thin)
     × BothTold before after (AreWritten (header_text thin) (c_name module_name) (module_text module_name thin))
+
+-- under this name stands a text that reads, whole, as this tree
+abbrev pub Holds : FileMap → List ℕ → CFile → Type 0
+Holds files name tree = IsSomeAnd (files name) (λ text. c_reading text tree.items true)
+
+-- both outputs read back as the C trees of the thin function that a file spells
+pub record ReadsBack (word module_name : List ℕ) (before after : Option FileMap) : Type 0 where
+  pub thin : ThinFunction
+  pub is_thin : IsThin thin
+  pub spelled : Spells before word (thin_text thin)
+  pub header : CFile
+  pub c_file : CFile
+  pub trees : thin_files module_name thin ≡ header ∷ c_file ∷ []
+  pub held : BothTold before after (λ _ files. Holds files header_name header × Holds files (c_name module_name) c_file)
 
 -- the first of these outputs stand, and the one that failed may hold anything
 abbrev pub IsPartlyBuilt : List ℕ → List ℕ → Option FileMap → Option FileMap → Type 0

@@ -1,6 +1,5 @@
 pub mod Build
 pub mod Command
-pub mod CText
 pub mod Thin
 pub mod ThinC
 pub mod Statuses

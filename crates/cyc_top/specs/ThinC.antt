@@ -1,10 +1,9 @@
 -- The C that is written for a thin file. The project's own; the statements follow the Python/C API manual.
-use Rattle.std.specs.Prelude.{ℕ, suc, List, [], ◌∷◌, Option, Some, None, unwrap_or, length, map, replicate, ◌++◌, codes}
+use Rattle.std.specs.Prelude.{ℕ, List, [], ◌∷◌, Option, Some, None, unwrap_or, length, map, replicate, ◌++◌, codes}
 use Rattle.std.specs.List.{position, range_with_len}
 use Rattle.std.specs.Str.{bytes_eq}
 use Rattle.c_mach.specs.declared.BinaryOp.TheVariants as op
 use Rattle.c_mach.specs.declared.Exception.TheVariants as exception
-use Rattle.c_mach.specs.declared.CType.{CType}
 use Rattle.c_mach.specs.declared.CType.TheVariants as type
 use Rattle.c_mach.specs.declared.Variable.{Variable}
 use Rattle.c_mach.specs.declared.Variable.TheVariants as variable
@@ -25,7 +24,6 @@ use Rattle.c_mach.specs.declared.Declaration.{Declaration}
 use Rattle.c_mach.specs.declared.Parameter.{Parameter}
 use Rattle.c_mach.specs.declared.CHead.TheVariants as head
 use Rattle.c_mach.specs.declared.CFunction.{CFunction}
-use Rattle.c_mach.specs.declared.MethodRow.{MethodRow}
 use Rattle.c_mach.specs.declared.CItem.{CItem}
 use Rattle.c_mach.specs.declared.CItem.TheVariants as item
 use Rattle.c_mach.specs.declared.CFile.{CFile}

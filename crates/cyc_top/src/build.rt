@@ -1,18 +1,20 @@
-ghost use Rattle.std.specs.Prelude.{◌≡◌, ◌≢◌, ◌⊎◌, ◌^◌, ◌<◌, ◌≤◌, ◌+◌, ◌↔◌, ◌++◌, ℕ, List, length, codes, Some, None, IfSome, IfOk, IsSomeAnd, MatchOption};
+ghost use Rattle.std.specs.Prelude.{◌≡◌, ◌≢◌, ◌⊎◌, ◌^◌, ◌<◌, ◌≤◌, ◌+◌, ◌↔◌, ◌++◌, ℕ, List, length, codes, Some, None, IfSome, IfOk, IsSomeAnd, MatchOption, All};
+ghost use Rattle.c_mach.specs.CReading.{IsFileInForm};
 ghost use Rattle.cy_io.specs.Counts.{Rose};
 ghost use Rattle.cy_io.specs.Told.{BothTold, FileMap};
 ghost use Rattle.cy_mean.specs.declared.ThinFunction.{ThinFunction};
 ghost use Rattle.cyc_top.specs.Thin.{IsThin, thin_text};
 ghost use Rattle.cyc_top.specs.ThinC.{thin_files};
-ghost use Rattle.cyc_top.specs.Build.{header_name, c_name, header_text, module_text, AreWritten, ArePartlyWritten, IsAsBeforeOrHeader, Tells, IsUnthin, IsBuilt, IsPartlyBuilt, IsAtMostHeader};
+ghost use Rattle.cyc_top.specs.Command.{IsIdentifier};
+ghost use Rattle.cyc_top.specs.Build.{header_name, c_name, header_text, module_text, AreWritten, ArePartlyWritten, IsAsBeforeOrHeader, Tells, IsUnthin, IsBuilt, ReadsBack, IsPartlyBuilt, IsAtMostHeader};
 ghost use Rattle.cyc_top.specs.Statuses.{OnVerdict, UnlessWriting};
 
 use crate::command::Build;
 use crate::compile::compile;
-use crate::print::print;
 use crate::status::Status;
 use crate::thin_source::parse_thin;
 use c_mach::CFile;
+use c_print::print;
 use cy_io::{Files, OutOfMemory, ReadAnswer, WriteAnswer};
 use std::alloc::Global;
 
@@ -24,6 +26,8 @@ const READ_LIMIT: usize = 4_194_305;
 pub fn thin(alloc: Global, name: &[u8], bytes: &[u8]) -> Result<Option<Vec<CFile>>, OutOfMemory>
     ensures found { IfOk result (λ found. IfSome found (λ files. (thin : ThinFunction)
         × IsThin thin × (bytes.now ≡ thin_text thin) × (files.items ≡ thin_files name.now thin))) }
+    ensures in_form { IfOk result (λ found. IfSome found
+        (λ files. IsIdentifier name.now → All IsFileInForm files.items)) }
     ensures not_found { IfOk result (λ found. found ≡ None
         → (thin : ThinFunction) → IsThin thin → bytes.now ≢ thin_text thin) }
 {
@@ -101,8 +105,11 @@ fn write_outputs<F: Files>(alloc: Global, files: &mut F, outputs: &Outputs) -> S
 
 /// Builds the file of sources that a command names: reads it, makes both outputs, and writes them.
 pub fn build<F: Files>(alloc: Global, command: &Build<'_>, files: &mut F) -> Status
+    requires { IsIdentifier command.now.module.now }
     ensures done { result ≡ Status.Done →
         IsBuilt command.now.word.now command.now.module.now (F.told files.old) (F.told files.new) }
+    ensures reads_back { result ≡ Status.Done →
+        ReadsBack command.now.word.now command.now.module.now (F.told files.old) (F.told files.new) }
     ensures not_built { result ≡ Status.NotBuilt → IsUnthin (F.told files.old) command.now.word.now }
     ensures missing { (k : ℕ) → result ≡ Status.Missing k → (k ≡ 0) × MatchOption (F.told files.old)
         (Rose (F.read_faults files.old command.now.word.now) (F.read_faults files.new command.now.word.now))

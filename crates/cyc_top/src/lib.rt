@@ -4,10 +4,7 @@
 mod build;
 mod command;
 mod compile;
-mod print;
 mod status;
-#[cfg(test)]
-mod tests;
 mod thin_source;
 mod top;
 

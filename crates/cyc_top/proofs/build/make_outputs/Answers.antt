@@ -1,4 +1,4 @@
-use Rattle.std.proofs.Common.{◌≡◌, ℕ, List, [], ◌∷◌, ◌++◌, codes, length, length-append, get_or, sym, ap, ◌∙◌, arith}
+use Rattle.std.proofs.Common.{◌≡◌, ℕ, List, [], ◌∷◌, codes, length, length-append, get_or, sym, ap, ◌∙◌, arith}
 use Rattle.cyc_top.specs.Build.{header_name, c_name}
 use Rattle.cyc_top.proofs.build.make_outputs.Goals as goal
 

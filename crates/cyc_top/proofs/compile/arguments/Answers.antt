@@ -2,7 +2,6 @@ use Rattle.std.proofs.Common.{ℕ, ◌∷◌, [], ◌++◌, List, sym, ap, ◌�
 use Rattle.std.proofs.lemmas.List.FromFn.{map-range_with_len_more}
 use Rattle.c_mach.specs.declared.CValue.{CValue}
 use Rattle.c_mach.specs.declared.CValue.TheVariants as value
-use Rattle.cyc_top.specs.ThinC.{object_parameter}
 use Rattle.cyc_top.proofs.compile.arguments.Goals as goal
 
 pub loop-number-preserved : goal.loop-number-preserved

@@ -1,6 +1,5 @@
 use Rattle.std.proofs.Common.{◌≡◌, map}
 use Rattle.std.specs.List.{range_with_len}
-use Rattle.c_mach.specs.declared.CValue.TheVariants as value
 use Rattle.cyc_top.specs.ThinC.{object_parameter}
 use Rattle.cyc_top.proofs.compile.object_parameters.Given as goal
 

@@ -1,4 +1,4 @@
-use crate::{Status, cyc, thin};
+use cyc_top::{Status, cyc, thin};
 use cy_io::{MemFiles, MemSink, SureFiles, SureSink};
 use std::alloc::{AllocError, Global};
 use std::test::Fail;

@@ -35,8 +35,8 @@ use Rattle.c_mach.specs.declared.MethodRow.{MethodRow}
 use Rattle.c_mach.specs.declared.CItem.{CItem}
 use Rattle.c_mach.specs.declared.CItem.TheVariants as item
 use Rattle.c_mach.specs.declared.CFile.{CFile}
-use Rattle.cyc_top.specs.declared.print.Fixed.{Fixed}
-use Rattle.cyc_top.specs.declared.print.Fixed.TheVariants as fixed
+use Rattle.c_print.specs.declared.Fixed.{Fixed}
+use Rattle.c_print.specs.declared.Fixed.TheVariants as fixed
 
 -- the texts that are the same in every file
 unfoldable pub fixed_text : Fixed → List ℕ

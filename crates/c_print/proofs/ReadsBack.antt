@@ -7,7 +7,7 @@ use Rattle.c_mach.specs.CReading.{c_items, c_reading, spelling, type_spelling, v
 use Rattle.c_mach.proofs.Items.{cut_spellings, read_spellings}
 use Rattle.c_mach.proofs.Unique.{type_spelling_first, parameter_spelling_first, reading_unique}
 use Rattle.c_mach.proofs.Tokens.{Stops, StopsSign, stops_sign, begun, word_tokens, star_tokens, name_append, decimal_name, number_tokens, join_tokens, string_tokens}
-use Rattle.cyc_top.specs.CText.{fixed_text, listed, type_text, type_before, variable_text, place_text, numbered, function_text, row_text, exception_text, byte_text, string_text, value_text, comparison_text, target_text, destination_text, arguments_text, goto_text, statement_text, line_text, initial_text, declaration_text, parameter_text, or_void, head_text, body_text, method_text, item_text, file_text}
+use Rattle.c_print.specs.CText.{fixed_text, listed, type_text, type_before, variable_text, place_text, numbered, function_text, row_text, exception_text, byte_text, string_text, value_text, comparison_text, target_text, destination_text, arguments_text, goto_text, statement_text, line_text, initial_text, declaration_text, parameter_text, or_void, head_text, body_text, method_text, item_text, file_text}
 use Rattle.c_mach.specs.declared.BinaryOp.TheVariants as op
 use Rattle.c_mach.specs.declared.Exception.{Exception}
 use Rattle.c_mach.specs.declared.Exception.TheVariants as exception
@@ -42,7 +42,7 @@ use Rattle.c_mach.specs.declared.MethodRow.{MethodRow}
 use Rattle.c_mach.specs.declared.CItem.{CItem}
 use Rattle.c_mach.specs.declared.CItem.TheVariants as item
 use Rattle.c_mach.specs.declared.CFile.{CFile}
-use Rattle.cyc_top.specs.declared.print.Fixed.TheVariants as fixed
+use Rattle.c_print.specs.declared.Fixed.TheVariants as fixed
 
 -- ---- names
 

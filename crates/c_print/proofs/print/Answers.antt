@@ -1,9 +1,9 @@
 use Rattle.std.proofs.Common.{arith, ◌≡◌, true, sym, subst}
 use Rattle.std.proofs.lemmas.Grind.{common_steps}
 use Rattle.c_mach.specs.CReading.{c_reading}
-use Rattle.cyc_top.specs.CText.{file_text}
-use Rattle.cyc_top.proofs.ReadsBack.{file_reads, file_reads_alone}
-use Rattle.cyc_top.proofs.print.print.Goals as goal
+use Rattle.c_print.specs.CText.{file_text}
+use Rattle.c_print.proofs.ReadsBack.{file_reads, file_reads_alone}
+use Rattle.c_print.proofs.print.Goals as goal
 
 pub returns-clause-read_back : goal.returns-clause-read_back
 returns-clause-read_back c =

@@ -1,0 +1,15 @@
+use Rattle.std.proofs.Common.{sym, subst, List, All}
+use Rattle.std.proofs.lemmas.List.Elements.{All-from_recursion}
+use Rattle.c_mach.specs.CReading.{IsFileInForm}
+use Rattle.c_mach.specs.declared.CFile.{CFile}
+use Rattle.cyc_top.specs.ThinC.{thin_files}
+use Rattle.cyc_top.proofs.InForm.{thin_in_form}
+use Rattle.cyc_top.proofs.build.thin.Goals as goal
+
+pub returns-in_ok-compile-in-Some-clause-in_form : goal.returns-in_ok-compile-in-Some-clause-in_form
+returns-in_ok-compile-in-Some-clause-in_form c = λ identifier.
+    let name = c.args.name.now in
+    let function = c.in-Some.function in
+    let found = rw c.in-Some.is at c.in_ok-function.ensures.found in
+    let in_form = All-from_recursion IsFileInForm (thin_files name function) (thin_in_form name function identifier found.0) in
+    subst (λ (files : List CFile). All IsFileInForm files) (sym c.in_ok-compile-in-Some.ensures) in_form
