@@ -1,6 +1,5 @@
-use sqlite_items::Items;
-
 use crate::Bytes;
+use sqlite_items::Items;
 
 /// The types of C numbers.
 #[derive(Clone, Copy, Debug, PartialEq, Eq)]

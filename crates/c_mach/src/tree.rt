@@ -1,6 +1,5 @@
-use sqlite_items::Items;
-
 use crate::{BinaryOp, Bytes, Exception};
+use sqlite_items::Items;
 
 /// The C types of variables, parameters, results and places (ISO/IEC 9899:2011 6.7.2).
 #[derive(Clone, Copy, Debug, PartialEq, Eq)]

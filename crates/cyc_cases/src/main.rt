@@ -23,7 +23,10 @@ fn run_case<R: Runtime + AllocGlobal>(rt: &R, name: &str) -> Result<()> {
     let bytes = fs::read(rt, name)?;
     let mut files = SureFiles::new(rt.alloc());
     files.add(name.as_bytes(), bytes.as_slice())?;
-    let words = vec![in rt.alloc(); String::from_str(rt.alloc(), "build")?, String::from_str(rt.alloc(), name)?]?;
+    let words = vec![in rt.alloc();
+        String::from_str(rt.alloc(), "build")?,
+        String::from_str(rt.alloc(), name)?,
+    ]?;
     let mut out = SureSink::new(rt.alloc());
     let mut err = SureSink::new(rt.alloc());
     let status = cyc(rt.alloc(), words.as_slice(), &mut files, &mut out, &mut err);

@@ -1,5 +1,5 @@
-use cyc_top::{Status, cyc, thin};
 use cy_io::{MemFiles, MemSink, SureFiles, SureSink};
+use cyc_top::{Status, cyc, thin};
 use std::alloc::{AllocError, Global};
 use std::test::Fail;
 
