@@ -1,4 +1,5 @@
 pub mod Items
+mod ReadingRows
 mod Rows
 pub mod Tokens
 pub mod Unique

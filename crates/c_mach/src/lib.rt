@@ -3,6 +3,7 @@
 
 mod bytes;
 mod space;
+mod state;
 mod tree;
 
 pub use bytes::Bytes;
@@ -10,6 +11,7 @@ pub use space::{
     Allocation, Answer, BinaryOp, Callee, ClassName, Entry, Event, Exception, FunctionPath, Info,
     MemberPath, NumberType, Obj, Op,
 };
+pub use state::{Cell, Course, Doing, Entered, FaultKind, Kind, Reading, Spot, Step, Value};
 pub use tree::{
     ApiRow, CFile, CFunction, CHead, CItem, CStmt, CType, CValue, Comparison, Declaration,
     FunctionName, InitialValue, Line, MethodRow, Parameter, Place, Target, Variable,

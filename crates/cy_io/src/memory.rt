@@ -1,4 +1,4 @@
-ghost use Rattle.std.specs.Prelude.{◌≡◌, ◌≤◌, ◌<◌, ◌++◌, ◌⊎◌, ℕ, List, [], length, take, Some, None, IsSomeAnd, OnOk, OnErr, option_copied};
+ghost use Rattle.std.specs.Prelude.{◌≡◌, ◌≢◌, ◌≤◌, ◌<◌, ◌++◌, ◌⊎◌, ℕ, List, [], length, take, Some, None, IsSomeAnd, OnOk, OnErr, option_copied};
 ghost use Rattle.cy_io.specs.Answers.{IfBytes, UnlessReadFault, UnlessFailed};
 ghost use Rattle.cy_io.specs.Counts.{Rose};
 ghost use Rattle.cy_io.specs.Memory.{mem_files, failed_reads, failed_writes, mem_calls, mem_held, failed_puts, sink_calls};
@@ -61,6 +61,8 @@ impl MemFiles {
         ensures ok { OnOk result (failed_reads self.old name.now < failed_reads self.new name.now) }
         ensures err { OnErr result (failed_reads self.new ≡ failed_reads self.old) }
         ensures grow { (other : List ℕ) → failed_reads self.old other ≤ failed_reads self.new other }
+        ensures others { (other : List ℕ) → other ≢ name.now
+            → failed_reads self.new other ≡ failed_reads self.old other }
         ensures files { mem_files self.new ≡ mem_files self.old }
         ensures writes { failed_writes self.new ≡ failed_writes self.old }
         ensures calls { mem_calls self.new ≡ mem_calls self.old }
@@ -90,6 +92,8 @@ impl Files for MemFiles {
             (failed_reads self.new ≡ failed_reads self.old) }
         ensures read_counts_grow { (other : List ℕ) →
             failed_reads self.old other ≤ failed_reads self.new other }
+        ensures others { (other : List ℕ) → other ≢ name.now
+            → failed_reads self.new other ≡ failed_reads self.old other }
         ensures write_count_same { failed_writes self.new ≡ failed_writes self.old }
         ensures listed { result ≡ ReadAnswer.Failed → IsListedNext (mem_calls self.old) }
         ensures fails { IsListedNext (mem_calls self.old) →
@@ -119,8 +123,7 @@ impl Files for MemFiles {
         ensures write_count_grows { failed_writes self.old ≤ failed_writes self.new }
         ensures read_counts_same { failed_reads self.new ≡ failed_reads self.old }
         ensures listed { result ≡ WriteAnswer.Failed → IsListedNext (mem_calls self.old) }
-        ensures fails { IsListedNext (mem_calls self.old) →
-            (result ≡ WriteAnswer.Failed) ⊎ (result ≡ WriteAnswer.Memory) }
+        ensures fails { IsListedNext (mem_calls self.old) → result ≡ WriteAnswer.Failed }
         ensures later { IsOneLater (mem_calls self.old) (mem_calls self.new) }
     {
         if self.calls.fails_next() {
@@ -181,8 +184,7 @@ impl Sink for MemSink {
         ensures count_kept { UnlessFailed result (failed_puts self.new ≡ failed_puts self.old) }
         ensures count_grows { failed_puts self.old ≤ failed_puts self.new }
         ensures listed { result ≡ WriteAnswer.Failed → IsListedNext (sink_calls self.old) }
-        ensures fails { IsListedNext (sink_calls self.old) →
-            (result ≡ WriteAnswer.Failed) ⊎ (result ≡ WriteAnswer.Memory) }
+        ensures fails { IsListedNext (sink_calls self.old) → result ≡ WriteAnswer.Failed }
         ensures later { IsOneLater (sink_calls self.old) (sink_calls self.new) }
     {
         if self.calls.fails_next() {

@@ -8,8 +8,9 @@ use Rattle.cy_mean.specs.declared.ThinFunction.{ThinFunction}
 use Rattle.cyc_top.specs.Thin.{IsThin}
 use Rattle.cyc_top.specs.ThinC.{header_items, module_items}
 use Rattle.cyc_top.specs.Command.{IsIdentifier}
-use Rattle.cyc_top.specs.Build.{header_name, c_name, header_text, module_text, AreWritten, Holds, IsBuilt, ReadsBack}
+use Rattle.cyc_top.specs.Build.{header_name, c_name, header_text, module_text, AreWritten, Holds, IsBuilt, IsSoundlyBuilt}
 use Rattle.cyc_top.proofs.InForm.{thin_in_form}
+use Rattle.cyc_top.proofs.ThinSound.Theorem.{sound}
 use Rattle.c_print.proofs.ReadsBack.{file_reads}
 
 held : (files : FileMap) (name text : List ℕ) (tree : CFile) → files name ≡ Some text → c_reading text tree.items true → Holds files name tree
@@ -35,8 +36,8 @@ module_reads module_name thin identifier is_thin =
     file_reads (record { items = module_items module_name thin }) (thin_in_form module_name thin identifier is_thin).1.0
 
 -- what is built reads back
-pub ReadsBack-built : (word module_name : List ℕ) (before after : Option FileMap) → IsIdentifier module_name → IsBuilt word module_name before after → ReadsBack word module_name before after
-ReadsBack-built word module_name before after identifier built =
+pub IsSoundlyBuilt-built : (word module_name : List ℕ) (before after : Option FileMap) → IsIdentifier module_name → IsBuilt word module_name before after → IsSoundlyBuilt word module_name before after
+IsSoundlyBuilt-built word module_name before after identifier built =
     let thin = built.0 in
     let header : CFile = record { items = header_items (length thin.parameters) } in
     let c_file : CFile = record { items = module_items module_name thin } in
@@ -48,6 +49,6 @@ ReadsBack-built word module_name before after identifier built =
       spelled = built.2;
       header = header;
       c_file = c_file;
-      trees = refl;
       held = both_held before after (header_text thin) (c_name module_name) (module_text module_name thin) header c_file header_is module_is built.3;
+      sound = sound module_name thin built.1;
     }

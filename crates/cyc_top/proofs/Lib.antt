@@ -4,3 +4,5 @@ pub mod Reading
 pub mod Built
 pub mod InForm
 pub mod Held
+pub mod Rows
+pub mod ThinSound

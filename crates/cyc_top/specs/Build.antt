@@ -4,6 +4,8 @@ use Rattle.c_mach.specs.CReading.{c_reading}
 use Rattle.c_mach.specs.declared.CFile.{CFile}
 use Rattle.cy_io.specs.Told.{FileMap, BothTold, SameElsewhere, IsWritten}
 use Rattle.cy_mean.specs.declared.ThinFunction.{ThinFunction}
+use Rattle.cy_mean.specs.Source.{thin_set}
+use Rattle.cy_mean.specs.Sound.{IsSound}
 use Rattle.c_print.specs.CText.{file_text}
 use Rattle.cyc_top.specs.Thin.{IsThin, thin_text}
 use Rattle.cyc_top.specs.ThinC.{header_items, module_items, thin_files}
@@ -66,15 +68,16 @@ IsBuilt word module_name before after =
 abbrev pub Holds : FileMap → List ℕ → CFile → Type 0
 Holds files name tree = IsSomeAnd (files name) (λ text. c_reading text tree.items true)
 
--- both outputs read back as the C trees of the thin function that a file spells
-pub record ReadsBack (word module_name : List ℕ) (before after : Option FileMap) : Type 0 where
+-- What is written means what its source means: where files are told, the file spells a function, and the texts under
+-- the names of both outputs read, whole, as C trees that are sound for it.
+pub record IsSoundlyBuilt (word module_name : List ℕ) (before after : Option FileMap) : Type 0 where
   pub thin : ThinFunction
   pub is_thin : IsThin thin
   pub spelled : Spells before word (thin_text thin)
   pub header : CFile
   pub c_file : CFile
-  pub trees : thin_files module_name thin ≡ header ∷ c_file ∷ []
   pub held : BothTold before after (λ _ files. Holds files header_name header × Holds files (c_name module_name) c_file)
+  pub sound : IsSound (thin_set module_name thin) (header ∷ c_file ∷ [])
 
 -- the first of these outputs stand, and the one that failed may hold anything
 abbrev pub IsPartlyBuilt : List ℕ → List ℕ → Option FileMap → Option FileMap → Type 0

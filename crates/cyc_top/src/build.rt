@@ -3,10 +3,12 @@ ghost use Rattle.c_mach.specs.CReading.{IsFileInForm};
 ghost use Rattle.cy_io.specs.Counts.{Rose};
 ghost use Rattle.cy_io.specs.Told.{BothTold, FileMap};
 ghost use Rattle.cy_mean.specs.declared.ThinFunction.{ThinFunction};
+ghost use Rattle.cy_mean.specs.Source.{thin_set};
+ghost use Rattle.cy_mean.specs.Sound.{IsSound};
 ghost use Rattle.cyc_top.specs.Thin.{IsThin, thin_text};
 ghost use Rattle.cyc_top.specs.ThinC.{thin_files};
 ghost use Rattle.cyc_top.specs.Command.{IsIdentifier};
-ghost use Rattle.cyc_top.specs.Build.{header_name, c_name, header_text, module_text, AreWritten, ArePartlyWritten, IsAsBeforeOrHeader, Tells, IsUnthin, IsBuilt, ReadsBack, IsPartlyBuilt, IsAtMostHeader};
+ghost use Rattle.cyc_top.specs.Build.{header_name, c_name, header_text, module_text, AreWritten, ArePartlyWritten, IsAsBeforeOrHeader, Tells, IsUnthin, IsBuilt, IsSoundlyBuilt, IsPartlyBuilt, IsAtMostHeader};
 ghost use Rattle.cyc_top.specs.Statuses.{OnVerdict, UnlessWriting};
 
 use crate::command::Build;
@@ -30,6 +32,9 @@ pub fn thin(alloc: Global, name: &[u8], bytes: &[u8]) -> Result<Option<Vec<CFile
         (λ files. IsIdentifier name.now → All IsFileInForm files.items)) }
     ensures not_found { IfOk result (λ found. found ≡ None
         → (thin : ThinFunction) → IsThin thin → bytes.now ≢ thin_text thin) }
+    ensures sound { IfOk result (λ found. IfSome found (λ files. (thin : ThinFunction)
+        × IsThin thin × (bytes.now ≡ thin_text thin)
+        × IsSound (thin_set name.now thin) files.items)) }
 {
     match parse_thin(alloc, bytes)? {
         Some(function) => Ok(Some(compile(alloc, name, &function)?)),
@@ -108,8 +113,8 @@ pub fn build<F: Files>(alloc: Global, command: &Build<'_>, files: &mut F) -> Sta
     requires { IsIdentifier command.now.module.now }
     ensures done { result ≡ Status.Done →
         IsBuilt command.now.word.now command.now.module.now (F.told files.old) (F.told files.new) }
-    ensures reads_back { result ≡ Status.Done →
-        ReadsBack command.now.word.now command.now.module.now (F.told files.old) (F.told files.new) }
+    ensures means_its_source { result ≡ Status.Done →
+        IsSoundlyBuilt command.now.word.now command.now.module.now (F.told files.old) (F.told files.new) }
     ensures not_built { result ≡ Status.NotBuilt → IsUnthin (F.told files.old) command.now.word.now }
     ensures missing { (k : ℕ) → result ≡ Status.Missing k → (k ≡ 0) × MatchOption (F.told files.old)
         (Rose (F.read_faults files.old command.now.word.now) (F.read_faults files.new command.now.word.now))

@@ -49,9 +49,10 @@ fn sum_lines(alloc: Global, left: u32, right: u32) -> Result<Items<Line>, AllocE
     ]?;
     let add = ApiRow::Number(BinaryOp::Add);
     let sum = CStmt::Api(Some(Variable::Temporary(0)), add, Items::from_vec(operands));
+    let test = leave_if_null(0);
     let lines = vec![in alloc;
         Line::Statement(sum),
-        leave_if_null(0),
+        test,
         Line::Statement(CStmt::Assign(Target::Variable(Variable::Returned), temporary(0))),
         Line::Label(0),
         Line::Statement(CStmt::Return(returned())),

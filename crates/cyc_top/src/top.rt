@@ -3,7 +3,7 @@ ghost use Rattle.cy_io.specs.Counts.{Rose};
 ghost use Rattle.cy_mean.specs.declared.ThinFunction.{ThinFunction};
 ghost use Rattle.cyc_top.specs.Thin.{IsThin, thin_text};
 ghost use Rattle.cyc_top.specs.Command.{IsBuild, module_of};
-ghost use Rattle.cyc_top.specs.Build.{Tells, IsUnthin, IsBuilt, ReadsBack, IsPartlyBuilt, IsAtMostHeader};
+ghost use Rattle.cyc_top.specs.Build.{Tells, IsUnthin, IsBuilt, IsSoundlyBuilt, IsPartlyBuilt, IsAtMostHeader};
 ghost use Rattle.cyc_top.specs.Statuses.{OnVerdict, UnlessWriting};
 
 use crate::build::build;
@@ -25,9 +25,9 @@ pub fn cyc<F: Files, O: Sink, E: Sink>(
         ↔ ((word : List ℕ) → ¬ IsBuild (map string_bytes words.now) word) }
     ensures done { (word : List ℕ) → IsBuild (map string_bytes words.now) word → result ≡ Status.Done →
         IsBuilt word (module_of word) (F.told files.old) (F.told files.new) }
-    ensures reads_back { (word : List ℕ) → IsBuild (map string_bytes words.now) word
+    ensures means_its_source { (word : List ℕ) → IsBuild (map string_bytes words.now) word
         → result ≡ Status.Done →
-        ReadsBack word (module_of word) (F.told files.old) (F.told files.new) }
+        IsSoundlyBuilt word (module_of word) (F.told files.old) (F.told files.new) }
     ensures not_built { (word : List ℕ) → IsBuild (map string_bytes words.now) word
         → result ≡ Status.NotBuilt → IsUnthin (F.told files.old) word }
     ensures missing { (word : List ℕ) (k : ℕ) → IsBuild (map string_bytes words.now) word

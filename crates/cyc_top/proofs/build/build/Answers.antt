@@ -1,5 +1,5 @@
 use Rattle.cyc_top.proofs.Built.{IsFront, AreMade, built, partly_built, at_most_header}
-use Rattle.cyc_top.proofs.Held.{ReadsBack-built}
+use Rattle.cyc_top.proofs.Held.{IsSoundlyBuilt-built}
 use Rattle.cyc_top.proofs.Reading.{IsUnthin-read, read_thin}
 use Rattle.cyc_top.proofs.build.build.Goals as goal
 
@@ -42,7 +42,7 @@ returns-in-Ok-None-clause-complete g c =
     let front : IsFront (g.F.Files.told c.args.files.now) c.args.command.now.word.now bytes = rw c.as_slice.ensures.value c.in-Bytes.ensures.bytes in
     λ thin h tells reads writes. absurd (c.in-Ok-None.ensures.not_found c.in-Ok-None.field-0-is thin h (read_thin (g.F.Files.told c.args.files.now) c.args.command.now.word.now bytes thin h front tells))
 
-pub returns-in-Ok-Some-clause-reads_back : goal.returns-in-Ok-Some-clause-reads_back
-returns-in-Ok-Some-clause-reads_back g c =
+pub returns-in-Ok-Some-clause-means_its_source : goal.returns-in-Ok-Some-clause-means_its_source
+returns-in-Ok-Some-clause-means_its_source g c =
     let told = g.F.Files.told in
-    λ e. ReadsBack-built c.args.command.now.word.now c.args.command.now.module.now (told c.args.files.now) (told c.write_outputs.new.files) c.requires (returns-in-Ok-Some-clause-done g c e)
+    λ e. IsSoundlyBuilt-built c.args.command.now.word.now c.args.command.now.module.now (told c.args.files.now) (told c.write_outputs.new.files) c.requires (returns-in-Ok-Some-clause-done g c e)

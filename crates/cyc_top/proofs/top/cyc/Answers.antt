@@ -2,7 +2,7 @@ use Rattle.std.proofs.Common.{◌≡◌, ℕ, List, ◌∙◌, sym, subst}
 use Rattle.cy_io.specs.Counts.{Rose}
 use Rattle.cyc_top.specs.Thin.{thin_text}
 use Rattle.cyc_top.specs.Command.{IsBuild, module_of}
-use Rattle.cyc_top.specs.Build.{IsBuilt, ReadsBack, IsPartlyBuilt, IsAtMostHeader, Tells}
+use Rattle.cyc_top.specs.Build.{IsBuilt, IsSoundlyBuilt, IsPartlyBuilt, IsAtMostHeader, Tells}
 use Rattle.cyc_top.proofs.top.cyc.Goals as goal
 
 -- words name one file at most
@@ -17,13 +17,13 @@ returns-in-Some-clause-done g c = λ word is_build e.
     let named = subst (λ (m : List ℕ). IsBuilt c.in-Some.command.word.now m old new) found.1 (c.build.ensures.done e) in
     subst (λ (w : List ℕ). IsBuilt w (module_of w) old new) (same_word _ _ _ found.0 is_build) named
 
-pub returns-in-Some-clause-reads_back : goal.returns-in-Some-clause-reads_back
-returns-in-Some-clause-reads_back g c = λ word is_build e.
+pub returns-in-Some-clause-means_its_source : goal.returns-in-Some-clause-means_its_source
+returns-in-Some-clause-means_its_source g c = λ word is_build e.
     let old = g.F.Files.told c.args.files.now in
     let new = g.F.Files.told c.build.new.files in
     let found = c.in-Some.ensures.found in
-    let named = subst (λ (m : List ℕ). ReadsBack c.in-Some.command.word.now m old new) found.1 (c.build.ensures.reads_back e) in
-    subst (λ (w : List ℕ). ReadsBack w (module_of w) old new) (same_word _ _ _ found.0 is_build) named
+    let named = subst (λ (m : List ℕ). IsSoundlyBuilt c.in-Some.command.word.now m old new) found.1 (c.build.ensures.means_its_source e) in
+    subst (λ (w : List ℕ). IsSoundlyBuilt w (module_of w) old new) (same_word _ _ _ found.0 is_build) named
 
 pub returns-in-Some-clause-write_fault : goal.returns-in-Some-clause-write_fault
 returns-in-Some-clause-write_fault g c = λ word is_build e.

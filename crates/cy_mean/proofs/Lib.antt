@@ -1,0 +1,15 @@
+pub mod Same
+pub mod Endings
+pub mod Growth
+pub mod Moves
+pub mod Steps
+pub mod Follows
+pub mod Operations
+pub mod TopLevel
+pub mod Quiet
+pub mod Soundness
+pub mod CEvents
+pub mod SourceEvents
+pub mod Nodes
+pub mod Statements
+pub mod Budget
