@@ -1,10 +1,14 @@
 -- Worked rows of the reading of C texts.
-use Rattle.std.proofs.Common.{◌≡◌, List, [], ◌∷◌, refl, subst, true, false, codes}
+use Rattle.std.proofs.Common.{◌≡◌, List, [], ◌∷◌, refl, sym, subst, true, false, codes}
+use Rattle.std.proofs.lemmas.Bool.{false≢true}
 use Rattle.c_mach.specs.CTokens.{CToken, Str, HeaderName, LineEnd, Other, word, sign, c_tokens}
-use Rattle.c_mach.specs.CReading.{c_items, c_reading, item_start, spelling, IsItemInForm}
+use Rattle.c_mach.specs.CReading.{c_items, c_reading, item_start, spelling, IsNameInForm, IsStatementInForm, LabelsStand, IsItemInForm}
 use Rattle.c_mach.specs.declared.tree.CItem.{CItem}
 use Rattle.c_mach.specs.declared.tree.CItem.TheVariants as item
+use Rattle.c_mach.specs.declared.tree.CStmt.TheVariants as stmt
 use Rattle.c_mach.specs.declared.tree.CType.TheVariants as type
+use Rattle.c_mach.specs.declared.tree.CValue.TheVariants as value
+use Rattle.c_mach.specs.declared.tree.Line.TheVariants as line
 use Rattle.c_mach.specs.declared.tree.Place.TheVariants as place
 use Rattle.c_mach.proofs.Items.{is_item_from, spelling_item}
 
@@ -58,3 +62,19 @@ broken_item = refl
 no_tokens : c_tokens (codes "\"a\nb\r<:\\\n") ≡ Other 34 ∷ word "b" ∷ Other 13 ∷ sign "<:" ∷ Other 92 ∷ []
 unfolding c_tokens
 no_tokens = refl
+
+-- a label at the end of a body, a string that is returned and a name with a digit at its start aren't in form
+last_label : LabelsStand (line.Label 0 ∷ line.Label 1 ∷ []) → ⊥
+last_label h = h
+
+returned_string : IsStatementInForm (stmt.Return (value.Str (codes "a"))) → ⊥
+returned_string h = h
+
+digit_first : IsNameInForm (codes "1a") → ⊥
+digit_first h = false≢true (sym h.0)
+
+empty_name : IsNameInForm [] → ⊥
+empty_name h = h
+
+digit_second : IsNameInForm (codes "a1")
+digit_second = (refl, (refl, (refl, tt)))

@@ -1,5 +1,5 @@
 -- Runs of small programs, computed: their traces, and the faults of wrong C.
-use Rattle.std.proofs.Common.{◌≡◌, ℕ, List, [], ◌∷◌, ◌++◌, Option, Some, None, refl}
+use Rattle.std.proofs.Common.{◌≡◌, ℕ, false, List, [], ◌∷◌, ◌++◌, Option, Some, None, refl}
 use Rattle.std.specs.Prelude.{codes}
 use Rattle.c_mach.specs.declared.space.Exception.TheVariants as exception
 use Rattle.c_mach.specs.declared.space.BinaryOp.TheVariants as binary
@@ -323,6 +323,7 @@ init_with ls = header ∷ record {
   items =
       item.Static type.PyObject place.Module
       ∷ item.Static type.PyObject (place.Global 0)
+      ∷ item.Static type.Int (place.Global 1)
       ∷ item.ModuleDefinition (codes "m")
       ∷ item.Function (record {
         head = head.Initializer (codes "m");
@@ -384,3 +385,20 @@ module_variable = refl
 module_variable-unheld : init_fault (create ∷ do_it (stmt.Assign (target.Place (place.Global 0)) (t 0)) ∷ add (operand.Place (place.Global 0)) (operand.Place (place.Global 0)) ∷ []) 2
     ≡ step.Fault fault.Unheld
 module_variable-unheld = refl
+
+-- without the lock a module variable of a number type is stored and read, and one that holds an object is neither
+
+abbrev unlocked : List Line → ℕ → Step
+unlocked ls n = (c_step (init_with ls) (c_steps (init_with ls) n (record (linked (init_with ls) []) { lock = false }))).answer
+
+number_stored : unlocked (do_it (stmt.Assign (target.Place (place.Global 1)) (operand.Int 5)) ∷ return_r ∷ []) 0 ≡ step.Went
+number_stored = refl
+
+number_read : unlocked (do_it (stmt.GotoIf (operand.Place (place.Global 1)) comparison.Equal (operand.Int 0) 0) ∷ line.Label 0 ∷ return_r ∷ []) 0 ≡ step.Went
+number_read = refl
+
+object_stored : unlocked (do_it (stmt.Assign (target.Place (place.Global 0)) operand.Null) ∷ return_r ∷ []) 0 ≡ step.Fault fault.Unlocked
+object_stored = refl
+
+object_read : unlocked (set_r (operand.Place (place.Global 0)) ∷ return_r ∷ []) 0 ≡ step.Fault fault.Unlocked
+object_read = refl

@@ -6,7 +6,7 @@ use Rattle.std.proofs.lemmas.Bool.{ne_eqb}
 use Rattle.std.proofs.lemmas.Bool.Decides.{nat_tests}
 use Rattle.std.proofs.lemmas.Fmt.{decimal_by_steps, decimal_nonempty}
 use Rattle.c_mach.specs.CTokens.{CToken, Word, Str, Sign, CLine, Fresh, Text, after, Mode, Between, InWord, InSign, InQuotes, AfterBackslash, Step, goes_on, ends, is_word_byte, is_long_sign, quoted, tokens_from}
-use Rattle.c_mach.specs.CReading.{quoted_byte, IsNameInForm, IsNumberInForm}
+use Rattle.c_mach.specs.CReading.{quoted_byte, AreWordBytes, IsNameInForm, IsNumberInForm}
 
 -- what may follow a word or a sign `*` without becoming a part of it
 abbrev pub Stops : List ℕ → Type 0
@@ -40,7 +40,7 @@ unfolding tokens_from
 word_byte line letters b more h =
     ap (λ t. let at : Step = (if t then goes_on (InWord line (letters ++ b ∷ [])) else ends (Word letters) line b) in at.given ++ tokens_from at.next more) h
 
-word_run : (line : CLine) (letters more rest : List ℕ) → IsNameInForm more → Stops rest
+word_run : (line : CLine) (letters more rest : List ℕ) → AreWordBytes more → Stops rest
     → tokens_from (InWord line letters) (more ++ rest) ≡ Word (letters ++ more) ∷ tokens_from (Between (after line (Word (letters ++ more)))) rest
 word_run line letters [] rest h k =
     word_ends line letters rest k
@@ -51,7 +51,7 @@ word_run line letters (b ∷ more) rest h k =
     ∙ ap (λ w. Word w ∷ tokens_from (Between (after line (Word w))) rest) (append_assoc letters (b ∷ []) more))
 
 -- the rest of a word in a line of text
-pub word_tokens : (begins : Bool) (letters more rest : List ℕ) → IsNameInForm more → Stops rest
+pub word_tokens : (begins : Bool) (letters more rest : List ℕ) → AreWordBytes more → Stops rest
     → tokens_from (InWord (begun begins) letters) (more ++ rest) ≡ Word (letters ++ more) ∷ tokens_from (Between Text) rest
 word_tokens false letters more rest h k = word_run Fresh letters more rest h k
 word_tokens true letters more rest h k = word_run Text letters more rest h k
@@ -64,22 +64,27 @@ star_tokens [] h = refl
 star_tokens (c ∷ more) h =
     ap (λ b. let at : Step = (if b then goes_on (InSign Text (42 ∷ c ∷ [])) else ends (Sign (42 ∷ [])) Text c) in at.given ++ tokens_from at.next more) h
 
-pub name_append : (xs ys : List ℕ) → IsNameInForm xs → IsNameInForm ys → IsNameInForm (xs ++ ys)
+pub name_append : (xs ys : List ℕ) → AreWordBytes xs → AreWordBytes ys → AreWordBytes (xs ++ ys)
 name_append [] ys h k = k
 name_append (x ∷ xs) ys h k = (h.0, name_append xs ys h.1 k)
+
+-- a name is bytes of a word
+pub name_words : (name : List ℕ) → IsNameInForm name → AreWordBytes name
+name_words [] h = absurd h
+name_words (b ∷ more) h = h.1
 
 digit_word : (n : ℕ) → n < 10 → is_word_byte (48 + n) ≡ true
 digit_word n h = grind (arith, nat_tests)
 
 -- the digits of a number are bytes of a word
-pub decimal_name : (n : ℕ) → IsNumberInForm n → IsNameInForm (decimal n)
+pub decimal_name : (n : ℕ) → IsNumberInForm n → AreWordBytes (decimal n)
 decimal_name n h =
-    decimal_by_steps (λ n ds. IsNameInForm ds)
+    decimal_by_steps (λ n ds. AreWordBytes ds)
     (λ n small. (digit_word n small, tt))
     (λ n ds big front. name_append ds ((48 + n % 10) ∷ []) front (digit_word (n % 10) (omega arith), tt))
     n (omega arith)
 
-name_read : (begins : Bool) (name rest : List ℕ) → 0 < length name → IsNameInForm name → Stops rest
+name_read : (begins : Bool) (name rest : List ℕ) → 0 < length name → AreWordBytes name → Stops rest
     → tokens_from (Between (begun begins)) (name ++ rest) ≡ Word name ∷ tokens_from (Between Text) rest
 unfolding tokens_from
 name_read begins [] rest big h k = absurd (omega arith)

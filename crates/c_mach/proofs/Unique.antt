@@ -7,7 +7,7 @@ use Rattle.std.proofs.lemmas.Bool.{eq-eqb}
 use Rattle.std.proofs.lemmas.Fmt.{decimal_by_steps, decimal_injective, decimal_nonempty}
 use Rattle.std.proofs.lemmas.Bool.Decides.{nat_tests}
 use Rattle.c_mach.specs.CTokens.{CToken, Word, Str, Character, Sign, HeaderName, LineEnd, Other, sign, word, c_tokens}
-use Rattle.c_mach.specs.CReading.{spelling, type_spelling, lettered_name, numbered_name, variable_name, place_name, function_name, row_name, exception_name, quoted_byte, variable_spelling, value_spelling, comparison_spelling, target_spelling, listed_spelling, call_spelling, goto_spelling, statement_spelling, line_spelling, initial_spelling, declaration_spelling, parameter_spelling, void_or, plain_head_spelling, head_spelling, body_spelling, method_spelling, IsNumberInForm, IsVariableInForm, IsPlaceInForm, IsFunctionNameInForm, IsValueInForm, IsTargetInForm, IsStatementInForm, IsLineInForm, IsDeclarationInForm, IsParameterInForm, IsHeadInForm, IsFunctionInForm, IsMethodInForm, IsItemInForm, IsReading}
+use Rattle.c_mach.specs.CReading.{spelling, type_spelling, lettered_name, numbered_name, variable_name, place_name, function_name, row_name, exception_name, quoted_byte, variable_spelling, value_spelling, comparison_spelling, target_spelling, listed_spelling, call_spelling, goto_spelling, statement_spelling, line_spelling, initial_spelling, declaration_spelling, parameter_spelling, void_or, plain_head_spelling, head_spelling, body_spelling, method_spelling, IsNumberInForm, IsVariableInForm, IsPlaceInForm, IsFunctionNameInForm, IsValueInForm, IsOperandInForm, IsTargetInForm, IsStatementInForm, IsLineInForm, IsDeclarationInForm, IsParameterInForm, IsHeadInForm, IsFunctionInForm, IsMethodInForm, IsItemInForm, IsReading}
 use Rattle.c_mach.specs.declared.space.BinaryOp.TheVariants as op
 use Rattle.c_mach.specs.declared.space.Exception.{Exception}
 use Rattle.c_mach.specs.declared.space.Exception.TheVariants as exception
@@ -410,6 +410,17 @@ row_not_function row.ErrSetString (function.Plain m k) e = bytes_differ (row_nam
 row_not_function row.ErrSetString (function.Wrapper m k) e = bytes_differ (row_name row.ErrSetString) (function_name (function.Wrapper m k)) refl e
 row_not_function row.ErrSetString (function.Initializer name) e = bytes_differ (row_name row.ErrSetString) (function_name (function.Initializer name)) refl e
 
+-- what may stand by itself may stand among arguments
+pub operand_value : (v : CValue) → IsOperandInForm v → IsValueInForm v
+operand_value (value.Str bytes) h = absurd h
+operand_value (value.Variable x) h = h
+operand_value (value.Place x) h = h
+operand_value (value.Argument j) h = h
+operand_value (value.Int n) h = h
+operand_value value.Null h = h
+operand_value (value.ExceptionType e) h = h
+operand_value value.Definition h = h
+
 -- an operand and a `;`, on both sides
 value_end_unique : (v w : CValue) (end r s : List CToken) → IsValueInForm v → IsValueInForm w → is_follow (end ++ r) ≡ true → is_follow (end ++ s) ≡ true
     → (value_spelling v ++ end) ++ r ≡ (value_spelling w ++ end) ++ s → (v ≡ w) × (end ++ r ≡ end ++ s)
@@ -528,9 +539,9 @@ test_unique : (a x : CValue) (c d : Comparison) (b y : CValue) (j k : ℕ) (r s 
 test_unique a x c d b y j k r s h i e =
     let left : List CToken = comparison_spelling c ∷ (value_spelling b ++ (sign ")" ∷ goto_spelling j)) in
     let right : List CToken = comparison_spelling d ∷ (value_spelling y ++ (sign ")" ∷ goto_spelling k)) in
-    let first = value_unique a x (left ++ r) (right ++ s) h.0 i.0 (comparison_follow c ((value_spelling b ++ (sign ")" ∷ goto_spelling j)) ++ r)) (comparison_follow d ((value_spelling y ++ (sign ")" ∷ goto_spelling k)) ++ s))
+    let first = value_unique a x (left ++ r) (right ++ s) (operand_value a h.0) (operand_value x i.0) (comparison_follow c ((value_spelling b ++ (sign ")" ∷ goto_spelling j)) ++ r)) (comparison_follow d ((value_spelling y ++ (sign ")" ∷ goto_spelling k)) ++ s))
     (sym (append_assoc (value_spelling a) left r) ∙ (ap (λ t. tail (tail t)) e ∙ append_assoc (value_spelling x) right s)) in
-    let second = value_unique b y ((sign ")" ∷ goto_spelling j) ++ r) ((sign ")" ∷ goto_spelling k) ++ s) h.1 i.1 refl refl
+    let second = value_unique b y ((sign ")" ∷ goto_spelling j) ++ r) ((sign ")" ∷ goto_spelling k) ++ s) (operand_value b h.1) (operand_value y i.1) refl refl
     (sym (append_assoc (value_spelling b) (sign ")" ∷ goto_spelling j) r) ∙ (ap tail first.1 ∙ append_assoc (value_spelling y) (sign ")" ∷ goto_spelling k) s)) in
     let same : c ≡ d = comparison_unique c d (ap first_token first.1) in
     let label : j ≡ k = label_unique j k h.2 i.2 (ap (λ t. first_bytes (tail (tail t))) second.1) in
@@ -540,7 +551,7 @@ statement_unique : (a b : CStmt) (r s : List CToken) → IsStatementInForm a →
     → statement_spelling a ++ r ≡ statement_spelling b ++ s → (a ≡ b) × (r ≡ s)
 statement_unique (stmt.Assign x v) (stmt.Assign y w) r s h i e =
     let named : x ≡ y = target_unique x y h.0 i.0 (ap first_token e) in
-    let parts = value_end_unique v w (sign ";" ∷ []) r s h.1 i.1 refl refl (ap (λ t. tail (tail t)) e) in
+    let parts = value_end_unique v w (sign ";" ∷ []) r s (operand_value v h.1) (operand_value w i.1) refl refl (ap (λ t. tail (tail t)) e) in
     ((λ t. stmt.Assign (named t) (parts.0 t)), ap tail parts.1)
 statement_unique (stmt.Assign x v) (stmt.Api (Some y) f values) r s h i e = absurd (value_not_call v (row_name f) r _ (ap (λ t. tail (tail t)) e))
 statement_unique (stmt.Assign x v) (stmt.Call (Some y) f values) r s h i e = absurd (value_not_call v (function_name f) r _ (ap (λ t. tail (tail t)) e))
@@ -578,7 +589,7 @@ statement_unique (stmt.GotoIf a c b j) (stmt.GotoIf x d y k) r s h i e = test_un
 statement_unique (stmt.Goto j) (stmt.Goto k) r s h i e =
     (ap stmt.Goto (label_unique j k h i (ap (λ t. first_bytes (tail t)) e)), ap (λ t. tail (tail (tail t))) e)
 statement_unique (stmt.Return v) (stmt.Return w) r s h i e =
-    let parts = value_end_unique v w (sign ";" ∷ []) r s h i refl refl (ap tail e) in
+    let parts = value_end_unique v w (sign ";" ∷ []) r s (operand_value v h) (operand_value w i) refl refl (ap tail e) in
     (ap stmt.Return parts.0, ap tail parts.1)
 statement_unique a (stmt.Api None f ys) r s h i e = absurd (statements_differ a (stmt.Api None f ys) r s refl e)
 statement_unique a (stmt.Api (Some y) f ys) r s h i e = absurd (statements_differ a (stmt.Api (Some y) f ys) r s refl e)

@@ -1,6 +1,7 @@
 -- The C trees that a text holds: its items, and how a tree is spelled as tokens. The project's own profile of C
 -- (ISO/IEC 9899:2011).
 use Rattle.std.specs.Prelude.{◌≡◌, ℕ, zero, suc, ◌+◌, ◌^◌, ◌/◌, ◌%◌, ◌<◌, ◌≤◌, ◌||◌, List, [], ◌∷◌, ◌++◌, Bool, true, false, Option, Some, None, is_none, unwrap_or, nat_lt, nat_eq, if◌then◌else◌, codes, decimal, ⊤}
+use Rattle.std.specs.Char.{is_ascii_digit}
 use Rattle.std.specs.List.{flat_map, AllByRecursion}
 use Rattle.std.specs.Str.{bytes_eq}
 use Rattle.c_mach.specs.CTokens.{CToken, Word, Str, Sign, LineEnd, word, sign, is_word_byte, c_tokens}
@@ -297,9 +298,14 @@ IsNumberInForm n = n < 2 ^ 32
 abbrev pub IsStringInForm : List ℕ → Type 0
 IsStringInForm bytes = AllByRecursion (λ b. b < 256) bytes
 
--- the name that an initialiser ends with: letters, digits and `_`
+-- letters, digits and `_`
+abbrev pub AreWordBytes : List ℕ → Type 0
+AreWordBytes bytes = AllByRecursion (λ b. is_word_byte b ≡ true) bytes
+
+-- the name that an initialiser ends with: an identifier, so that no digit comes first (ISO/IEC 9899:2011 6.4.2.1)
 abbrev pub IsNameInForm : List ℕ → Type 0
-IsNameInForm name = AllByRecursion (λ b. is_word_byte b ≡ true) name
+IsNameInForm [] = ⊥
+IsNameInForm (first ∷ more) = (is_ascii_digit first ≡ false) × AreWordBytes (first ∷ more)
 
 abbrev pub IsVariableInForm : Variable → Type 0
 IsVariableInForm (variable.Parameter j) = IsNumberInForm j
@@ -334,6 +340,11 @@ IsValueInForm value.Null = ⊤
 IsValueInForm (value.ExceptionType e) = ⊤
 IsValueInForm value.Definition = ⊤
 
+-- an operand that stands by itself: a string literal stands only among the arguments of a call
+abbrev pub IsOperandInForm : CValue → Type 0
+IsOperandInForm (value.Str bytes) = ⊥
+IsOperandInForm v = IsValueInForm v
+
 abbrev pub IsTargetInForm : Target → Type 0
 IsTargetInForm (target.Variable x) = IsVariableInForm x
 IsTargetInForm (target.Place x) = IsPlaceInForm x
@@ -343,19 +354,26 @@ IsDestinationInForm None = ⊤
 IsDestinationInForm (Some x) = IsVariableInForm x
 
 abbrev pub IsStatementInForm : CStmt → Type 0
-IsStatementInForm (stmt.Assign x v) = IsTargetInForm x × IsValueInForm v
+IsStatementInForm (stmt.Assign x v) = IsTargetInForm x × IsOperandInForm v
 IsStatementInForm (stmt.Api x f values) = IsDestinationInForm x × AllByRecursion IsValueInForm values
 IsStatementInForm (stmt.Call x f values) =
     IsDestinationInForm x × IsFunctionNameInForm f × AllByRecursion IsValueInForm values
 IsStatementInForm (stmt.Incref v) = IsValueInForm v
 IsStatementInForm (stmt.Decref v) = IsValueInForm v
-IsStatementInForm (stmt.GotoIf a c b label) = IsValueInForm a × IsValueInForm b × IsNumberInForm label
+IsStatementInForm (stmt.GotoIf a c b label) = IsOperandInForm a × IsOperandInForm b × IsNumberInForm label
 IsStatementInForm (stmt.Goto label) = IsNumberInForm label
-IsStatementInForm (stmt.Return v) = IsValueInForm v
+IsStatementInForm (stmt.Return v) = IsOperandInForm v
 
 abbrev pub IsLineInForm : Line → Type 0
 IsLineInForm (line.Label label) = IsNumberInForm label
 IsLineInForm (line.Statement s) = IsStatementInForm s
+
+-- each run of labels is followed by a statement (ISO/IEC 9899:2011 6.8.1)
+abbrev pub LabelsStand : List Line → Type 0
+LabelsStand [] = ⊤
+LabelsStand (line.Label label ∷ []) = ⊥
+LabelsStand (line.Label label ∷ next ∷ lines) = LabelsStand (next ∷ lines)
+LabelsStand (line.Statement s ∷ lines) = LabelsStand lines
 
 abbrev pub IsDeclarationInForm : Declaration → Type 0
 IsDeclarationInForm d = IsVariableInForm d.variable
@@ -371,7 +389,7 @@ IsHeadInForm (head.Initializer name) = IsNameInForm name
 
 abbrev pub IsFunctionInForm : CFunction → Type 0
 IsFunctionInForm f =
-    IsHeadInForm f.head × AllByRecursion IsDeclarationInForm f.declarations × AllByRecursion IsLineInForm f.lines
+    IsHeadInForm f.head × AllByRecursion IsDeclarationInForm f.declarations × AllByRecursion IsLineInForm f.lines × LabelsStand f.lines
 
 abbrev pub IsMethodInForm : MethodRow → Type 0
 IsMethodInForm m = IsStringInForm m.name × IsNumberInForm m.module × IsNumberInForm m.index

@@ -12,7 +12,7 @@ use Rattle.c_mach.specs.declared.state.Doing.TheVariants as doing
 use Rattle.c_mach.specs.declared.state.Course.{Course}
 use Rattle.c_mach.specs.declared.state.Course.TheVariants as course
 use Rattle.c_mach.specs.State.{Frame, CState, linked}
-use Rattle.c_mach.specs.Statements.{Moved, Went, Over, Faulted, tell, run_line}
+use Rattle.c_mach.specs.Statements.{Moved, Went, Over, Faulted, off, tell, run_line}
 use Rattle.c_mach.specs.Outside.{await, idle}
 
 abbrev pub by_frame : List CFile → CState → Frame → List Frame → Doing → Moved
@@ -22,7 +22,7 @@ by_frame files c f fs (doing.Waits x) = Faulted fault.Stuck
 
 abbrev pub by_frames : List CFile → CState → List Frame → Moved
 by_frames files c [] = Went (idle files c)
-by_frames files c (f ∷ fs) = by_frame files c f fs f.doing
+by_frames files c (f ∷ fs) = by_frame files (off c fs) f fs f.doing
 
 -- after a failed initialisation the run ends
 abbrev pub by_course : List CFile → CState → Course → Moved

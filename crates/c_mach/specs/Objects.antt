@@ -1,5 +1,6 @@
 -- Objects, what a script entry answers to an operation, and what the operation comes to. The object space is the project's own.
 use Rattle.std.specs.Prelude.{ℕ, Bool, true, false, ◌&&◌, List, [], ◌∷◌, nat_eq, nat_lt, if◌then◌else◌}
+use Rattle.std.specs.Str.{bytes_eq}
 use Rattle.c_mach.specs.declared.space.Exception.{Exception}
 use Rattle.c_mach.specs.declared.space.Exception.TheVariants as exception
 use Rattle.c_mach.specs.declared.space.Obj.{Obj}
@@ -10,12 +11,6 @@ use Rattle.c_mach.specs.declared.space.Op.{Op}
 use Rattle.c_mach.specs.declared.space.Op.TheVariants as op
 use Rattle.c_mach.specs.declared.space.Answer.{Answer}
 use Rattle.c_mach.specs.declared.space.Answer.TheVariants as answers
-
--- whether two names are the same bytes
-abbrev pub same_bytes : List ℕ → List ℕ → Bool
-same_bytes [] [] = true
-same_bytes (x ∷ xs) (y ∷ ys) = nat_eq x y && same_bytes xs ys
-same_bytes _ _ = false
 
 -- exception types by number
 abbrev pub exception_number : Exception → ℕ
@@ -36,7 +31,7 @@ abbrev pub same_obj : Obj → Obj → Bool
 same_obj (obj.Foreign k) (obj.Foreign j) = nat_eq k j
 same_obj (obj.Inst k) (obj.Inst j) = nat_eq k j
 same_obj (obj.View k) (obj.View j) = nat_eq k j
-same_obj (obj.Class a) (obj.Class b) = same_bytes a.module b.module && same_bytes a.class b.class
+same_obj (obj.Class a) (obj.Class b) = bytes_eq a.module b.module && bytes_eq a.class b.class
 same_obj (obj.ExceptionType a) (obj.ExceptionType b) = nat_eq (exception_number a) (exception_number b)
 same_obj obj.NoneNode obj.NoneNode = true
 same_obj obj.TrueNode obj.TrueNode = true

@@ -73,10 +73,10 @@ called c f fs o r x callee args NotFound = answered c f fs o r x (entry.Enter ca
 
 -- the move inside an operation: with no entry left the run stops
 abbrev pub await : List CFile → CState → Frame → List Frame → Op → ApiRow → Option Variable → List Entry → CState
-await files c f fs o r x [] = tell event.Stop (script_to [] (record c { course = course.Stopped }))
-await files c f fs o r x (entry.Die k ∷ es) = script_to es c
+await files c f fs o r x [] = tell event.Stop (script_to [] (on (record c { course = course.Stopped }) f fs))
+await files c f fs o r x (entry.Die k ∷ es) = script_to es (on c f fs)
 await files c f fs o r x (entry.Enter callee args ∷ es) =
-    called (script_to es c) f fs o r x callee args (entered_by files c callee)
+    called (script_to es c) f fs o r x callee args (entered_by files c.places callee)
 await files c f fs o r x (e ∷ es) = answered (script_to es c) f fs o r x e
 
 -- a calling entry at top level: where it doesn't fit it is skipped
@@ -87,7 +87,7 @@ top_called c callee args NotFound = c
 -- the move at top level once all initialisations have begun: entries that call nothing are skipped, and with none left the run ends
 abbrev pub top : List CFile → CState → List Entry → CState
 top files c [] = tell event.End (script_to [] (record c { course = course.Ended }))
-top files c (entry.Enter callee args ∷ es) = top_called (script_to es c) callee args (entered_by files c callee)
+top files c (entry.Enter callee args ∷ es) = top_called (script_to es c) callee args (entered_by files c.places callee)
 top files c (e ∷ es) = script_to es c
 
 -- the next initialisation, if there is one
@@ -98,4 +98,4 @@ begin files c NotFound = top files c c.world.script
 
 -- the outside's move where no function runs
 abbrev pub idle : List CFile → CState → CState
-idle files c = begin files c (initializer_from c.begun 0 files)
+idle files c = begin files c (initializer_from c.begun files)

@@ -1,5 +1,6 @@
 -- What operands read, and the functions and tables that the linked files give.
-use Rattle.std.specs.Prelude.{ℕ, zero, suc, Bool, true, false, not, ◌&&◌, ◌||◌, List, [], ◌∷◌, ◌++◌, Option, Some, None, ℤ, pos, length, if◌then◌else◌, nat_eq, nat_lt}
+use Rattle.std.specs.Prelude.{ℕ, zero, suc, Bool, true, false, not, ◌&&◌, ◌||◌, List, [], ◌∷◌, ◌++◌, Option, Some, None, ℤ, pos, length, map, if◌then◌else◌, nat_eq, drop, slice_get, slice_index_or}
+use Rattle.std.specs.Str.{bytes_eq}
 use Rattle.c_mach.specs.declared.space.Obj.{Obj}
 use Rattle.c_mach.specs.declared.space.Obj.TheVariants as obj
 use Rattle.c_mach.specs.declared.space.Callee.{Callee}
@@ -38,7 +39,6 @@ use Rattle.c_mach.specs.declared.state.Spot.{Spot}
 use Rattle.c_mach.specs.declared.state.Entered.{Entered}
 use Rattle.c_mach.specs.declared.state.Doing.{Doing}
 use Rattle.c_mach.specs.declared.state.Doing.TheVariants as doing
-use Rattle.c_mach.specs.Objects.{same_bytes}
 use Rattle.c_mach.specs.State.{kind_of, is_module_variable, wrap_int, converts, converted, lookup, spot, spots_at, Frame, CState, has}
 
 -- what follows a label among the lines
@@ -53,10 +53,12 @@ module_name [] = None
 module_name (item.ModuleDefinition n ∷ is) = Some n
 module_name (i ∷ is) = module_name is
 
+-- the items of a file, by its number
+abbrev pub no_file : CFile
+no_file = record { items = [] }
+
 abbrev pub items_at : List CFile → ℕ → List CItem
-items_at [] k = []
-items_at (f ∷ fs) zero = f.items
-items_at (f ∷ fs) (suc k) = items_at fs k
+items_at files k = (slice_index_or files k no_file).items
 
 -- operands
 
@@ -71,10 +73,12 @@ abbrev pub spot_reading : Option Spot → Option Reading
 spot_reading None = None
 spot_reading (Some s) = some_reading s.kind s.value
 
+abbrev pub object_reading : Option Obj → Option Reading
+object_reading None = None
+object_reading (Some o) = some_reading kind.PyObject (value.Object o)
+
 abbrev pub object_at : List Obj → ℕ → Option Reading
-object_at [] j = None
-object_at (o ∷ os) zero = some_reading kind.PyObject (value.Object o)
-object_at (o ∷ os) (suc j) = object_at os j
+object_at os j = object_reading (slice_get os j)
 
 abbrev pub argument_of : Value → ℕ → Option Reading
 argument_of (value.Arguments os) j = object_at os j
@@ -108,27 +112,27 @@ abbrev pub read_each : List CFile → CState → Frame → List CValue → Optio
 read_each files c f [] = Some []
 read_each files c f (k ∷ ks) = one_more_reading (read files c f k) (read_each files c f ks)
 
--- whether an operand is a module variable: it is read with the lock, and makes a loan
-abbrev pub reads_module_variable : CValue → Bool
-reads_module_variable (operand.Place p) = is_module_variable p
-reads_module_variable _ = false
+-- whether an operand is a module variable that holds an object: it is read with the lock, and makes a loan
+abbrev pub reads_module_variable : CValue → Reading → Bool
+reads_module_variable (operand.Place p) v = is_module_variable p v.kind
+reads_module_variable _ v = false
 
-abbrev pub any_module_variable : List CValue → Bool
-any_module_variable [] = false
-any_module_variable (k ∷ ks) = reads_module_variable k || any_module_variable ks
+abbrev pub any_module_variable : List CValue → List Reading → Bool
+any_module_variable (k ∷ ks) (v ∷ vs) = reads_module_variable k v || any_module_variable ks vs
+any_module_variable _ _ = false
 
 abbrev pub object_in : Value → List Obj
 object_in (value.Object o) = o ∷ []
 object_in _ = []
 
 -- the loan that reading an operand makes
-abbrev pub lends : CValue → Value → List Obj
-lends k v = if reads_module_variable k then object_in v else []
+abbrev pub lends : CValue → Reading → List Obj
+lends k v = if reads_module_variable k v then object_in v.value else []
 
-abbrev pub lends_each : List CValue → List Reading → List Obj
-lends_each [] vs = []
-lends_each (k ∷ ks) [] = []
-lends_each (k ∷ ks) (v ∷ vs) = lends k v.value ++ lends_each ks vs
+-- the loans after the operands of a statement were read
+abbrev pub loans_after : List CValue → List Reading → List Obj → List Obj
+loans_after (k ∷ ks) (v ∷ vs) loans = loans_after ks vs (lends k v ++ loans)
+loans_after _ _ loans = loans
 
 abbrev pub is_set : Value → Bool
 is_set value.Unset = false
@@ -220,15 +224,6 @@ parameter_kinds (head.Plain m j t ps) = parameter_kinds_of ps
 parameter_kinds (head.Wrapper m j) = kind.PyObject ∷ kind.Arguments ∷ kind.PySsizeT ∷ []
 parameter_kinds (head.Initializer n) = []
 
-abbrev pub parameter_names_of : List Parameter → List Variable
-parameter_names_of [] = []
-parameter_names_of (p ∷ ps) = variable.Parameter p.number ∷ parameter_names_of ps
-
-abbrev pub parameter_names : CHead → List Variable
-parameter_names (head.Plain m j t ps) = parameter_names_of ps
-parameter_names (head.Wrapper m j) = variable.SelfObject ∷ variable.Arguments ∷ variable.ArgumentCount ∷ []
-parameter_names (head.Initializer n) = []
-
 abbrev pub result_kind : CHead → Kind
 result_kind (head.Plain m j t ps) = kind_of t
 result_kind (head.Wrapper m j) = kind.PyObject
@@ -247,13 +242,22 @@ initial_value k _ = zero_of k
 abbrev pub declared_cell : Declaration → Cell
 declared_cell d = record { variable = d.variable; kind = kind_of d.kind; value = initial_value (kind_of d.kind) d.initial }
 
-abbrev pub declared_cells : List Declaration → List Cell → List Cell
-declared_cells [] more = more
-declared_cells (d ∷ ds) more = declared_cell d ∷ declared_cells ds more
+abbrev pub plain_cells : List Parameter → List Value → List Cell
+plain_cells (p ∷ ps) (v ∷ vs) =
+    record { variable = variable.Parameter p.number; kind = kind_of p.kind; value = converted (kind_of p.kind) v } ∷ plain_cells ps vs
+plain_cells _ _ = []
 
-abbrev pub parameter_cells : List Variable → List Kind → List Value → List Cell
-parameter_cells (x ∷ xs) (k ∷ ks) (v ∷ vs) = record { variable = x; kind = k; value = converted k v } ∷ parameter_cells xs ks vs
-parameter_cells _ _ _ = []
+abbrev pub wrapper_cells : List Value → List Cell
+wrapper_cells (a ∷ b ∷ c ∷ []) =
+    record { variable = variable.SelfObject; kind = kind.PyObject; value = a }
+    ∷ record { variable = variable.Arguments; kind = kind.Arguments; value = b }
+    ∷ record { variable = variable.ArgumentCount; kind = kind.PySsizeT; value = c } ∷ []
+wrapper_cells _ = []
+
+abbrev pub parameter_cells : CHead → List Value → List Cell
+parameter_cells (head.Plain m j t ps) vs = plain_cells ps vs
+parameter_cells (head.Wrapper m j) vs = wrapper_cells vs
+parameter_cells (head.Initializer n) vs = []
 
 abbrev pub values_of : List Reading → List Value
 values_of [] = []
@@ -264,7 +268,7 @@ frame_of k fn vs lent by lock = record {
   file = k;
   function = fn;
   code = fn.lines;
-  variables = declared_cells fn.declarations (parameter_cells (parameter_names fn.head) (parameter_kinds fn.head) vs);
+  variables = map declared_cell fn.declarations ++ parameter_cells fn.head vs;
   own = [];
   lent = lent;
   entered = by;
@@ -292,7 +296,7 @@ is_ready ss = spot_holds_one (spot ss place.Ready)
 
 abbrev pub method_row : List MethodRow → List ℕ → Option MethodRow
 method_row [] name = None
-method_row (r ∷ rs) name = if same_bytes r.name name then Some r else method_row rs name
+method_row (r ∷ rs) name = if bytes_eq r.name name then Some r else method_row rs name
 
 abbrev pub method_in : List CItem → List ℕ → Option MethodRow
 method_in [] name = None
@@ -305,29 +309,26 @@ wrapper_of files k (Some r) = wrapper_at files k r.module r.index
 
 abbrev pub is_named : Option (List ℕ) → List ℕ → Bool
 is_named None name = false
-is_named (Some n) name = same_bytes n name
+is_named (Some n) name = bytes_eq n name
 
 -- the first file that defines the module
 abbrev pub module_from : ℕ → List CFile → List ℕ → Option ℕ
 module_from k [] name = None
 module_from k (f ∷ fs) name = if is_named (module_name f.items) name then Some k else module_from (suc k) fs name
 
-abbrev pub entered_in : List CFile → CState → List ℕ → Option ℕ → Found
-entered_in files c name None = NotFound
-entered_in files c name (Some k) =
-    if is_ready (spots_at c.places k) then wrapper_of files k (method_in (items_at files k) name) else NotFound
+abbrev pub entered_in : List CFile → List (List Spot) → List ℕ → Option ℕ → Found
+entered_in files places name None = NotFound
+entered_in files places name (Some k) =
+    if is_ready (spots_at places k) then wrapper_of files k (method_in (items_at files k) name) else NotFound
 
 -- the function that an entry enters, where it fits; a method never does, as there is no class yet
-abbrev pub entered_by : List CFile → CState → Callee → Found
-entered_by files c (callee.Function p) = entered_in files c p.name (module_from 0 files p.module)
-entered_by files c (callee.Method p) = NotFound
+abbrev pub entered_by : List CFile → List (List Spot) → Callee → Found
+entered_by files places (callee.Function p) = entered_in files places p.name (module_from 0 files p.module)
+entered_by files places (callee.Method p) = NotFound
 
 -- the next initialisation: the first one of the first file from a number on that has one
-abbrev pub initializer_from : ℕ → ℕ → List CFile → Found
-initializer_from begun k [] = NotFound
-initializer_from begun k (f ∷ fs) =
-    if nat_lt k begun then initializer_from begun (suc k) fs
-    else function_in k is_initializer f.items (initializer_from begun (suc k) fs)
+abbrev pub initializer_from : ℕ → List CFile → Found
+initializer_from begun files = function_among begun is_initializer (drop begun files)
 
 abbrev pub initializer_name : CHead → List ℕ
 initializer_name (head.Initializer n) = n

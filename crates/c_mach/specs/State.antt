@@ -1,5 +1,5 @@
 -- The state of the C: variables, places, frames and the ledger. The project's own, after the Python/C API manual's rules on references.
-use Rattle.std.specs.Prelude.{ℕ, zero, suc, Bool, true, false, ◌&&◌, ◌||◌, ◌-◌, ◌%◌, List, [], ◌∷◌, Option, Some, None, ℤ, pos, negsuc, nat_eq, nat_lt, if◌then◌else◌}
+use Rattle.std.specs.Prelude.{ℕ, suc, Bool, true, false, ◌&&◌, ◌||◌, ◌-◌, ◌%◌, List, [], ◌∷◌, Option, Some, None, ℤ, pos, negsuc, nat_eq, nat_lt, slice_index_or, slice_set, if◌then◌else◌}
 use Rattle.c_mach.specs.declared.space.Obj.{Obj}
 use Rattle.c_mach.specs.declared.space.Entry.{Entry}
 use Rattle.c_mach.specs.declared.tree.CType.{CType}
@@ -53,11 +53,6 @@ is_constant place.Builtins = true
 is_constant (place.Constant j) = true
 is_constant _ = false
 
--- the module variables, `cyc_g_J`
-abbrev pub is_module_variable : Place → Bool
-is_module_variable (place.Global j) = true
-is_module_variable _ = false
-
 -- types
 
 abbrev pub kind_of : CType → Kind
@@ -87,6 +82,11 @@ is_text _ = false
 abbrev pub is_definition : Kind → Bool
 is_definition kind.Definition = true
 is_definition _ = false
+
+-- whether a place of a type is a module variable that holds an object, `PyObject *cyc_g_J`
+abbrev pub is_module_variable : Place → Kind → Bool
+is_module_variable (place.Global j) kind.PyObject = true
+is_module_variable _ _ = false
 
 -- whether a value of the first type may stand where the second is wanted: numbers convert, NULL is any pointer (ISO/IEC 9899:2011 6.5.16.1)
 abbrev pub converts : Kind → Kind → Bool
@@ -147,14 +147,10 @@ put_spot (s ∷ ss) p v =
 
 -- the places of a file, by its number
 abbrev pub spots_at : List (List Spot) → ℕ → List Spot
-spots_at [] k = []
-spots_at (s ∷ ss) zero = s
-spots_at (s ∷ ss) (suc k) = spots_at ss k
+spots_at places k = slice_index_or places k []
 
 abbrev pub set_spots : List (List Spot) → ℕ → List Spot → List (List Spot)
-set_spots [] k s = []
-set_spots (x ∷ xs) zero s = s ∷ xs
-set_spots (x ∷ xs) (suc k) s = x ∷ set_spots xs k s
+set_spots places k spots = slice_set places k spots
 
 -- frames
 

@@ -1,5 +1,6 @@
 -- What one statement does: its faults in their order, and then its effect.
-use Rattle.std.specs.Prelude.{ℕ, zero, suc, Bool, true, false, not, ◌&&◌, ◌||◌, List, [], ◌∷◌, ◌++◌, Option, Some, None, ℤ, pos, negsuc, if◌then◌else◌, nat_eq, is_none}
+use Rattle.std.specs.Prelude.{ℕ, zero, suc, Bool, true, false, not, ◌&&◌, ◌||◌, List, [], ◌∷◌, ◌++◌, Option, Some, None, ℤ, pos, negsuc, if◌then◌else◌, nat_eq, is_none, slice_get}
+use Rattle.c_mach.specs.declared.space.BinaryOp.{BinaryOp}
 use Rattle.c_mach.specs.declared.space.Obj.{Obj}
 use Rattle.c_mach.specs.declared.space.Entry.{Entry}
 use Rattle.c_mach.specs.declared.space.Op.{Op}
@@ -40,7 +41,7 @@ use Rattle.c_mach.specs.declared.state.Course.TheVariants as course
 use Rattle.c_mach.specs.Objects.{same_obj}
 use Rattle.c_mach.specs.World.{say, with_script}
 use Rattle.c_mach.specs.State.{is_constant, is_module_variable, is_number, is_object, converts, converted, lookup, put, put_to, spot, put_spot, spots_at, set_spots, Frame, CState, has, lose, held, all_held}
-use Rattle.c_mach.specs.Reads.{after_label, read, read_each, reads_module_variable, any_module_variable, lends, lends_each, is_set, all_set, is_null, any_null, passed, fits, receives, Found, FoundFunction, NotFound, function_named, parameter_kinds, result_kind, values_of, frame_of}
+use Rattle.c_mach.specs.Reads.{after_label, read, read_each, reads_module_variable, any_module_variable, lends, loans_after, is_set, all_set, is_null, any_null, passed, fits, receives, Found, FoundFunction, NotFound, function_named, parameter_kinds, result_kind, values_of, frame_of}
 
 -- what a move comes to: the next state, the end of the run, or a fault
 pub data Moved : Type 0 where
@@ -79,44 +80,44 @@ abbrev pub lend : List Obj → CState → CState
 lend os c = record c { loans = os ++ c.loans }
 
 -- whether an operand may be read as far as the lock goes
-abbrev pub may_read : CState → CValue → Bool
-may_read c k = not (reads_module_variable k) || c.lock
+abbrev pub may_read : CState → CValue → Reading → Bool
+may_read c k v = not (reads_module_variable k v) || c.lock
 
 -- `x = k;` at a variable
 abbrev pub assign_variable : CState → Frame → List Frame → Variable → CValue → Reading → Cell → Moved
 assign_variable c f fs x k v cell =
     need (converts v.kind cell.kind) fault.Stuck
     (need (is_set v.value) fault.Undefined
-    (need (may_read c k) fault.Unlocked
-    (Went (on (lend (lends k v.value) c) (record f { variables = put f.variables x v.value }) fs))))
+    (need (may_read c k v) fault.Unlocked
+    (Went (on (lend (lends k v) c) (record f { variables = put f.variables x v.value }) fs))))
 
 -- `p = k;` at a place: the value moves in, and what was there moves out
 abbrev pub may_store : Spot → Bool
 may_store s = not (is_constant s.place) || not s.stored
 
-abbrev pub may_write : CState → Place → Bool
-may_write c p = not (is_module_variable p) || c.lock
+abbrev pub may_write : CState → Spot → Bool
+may_write c s = not (is_module_variable s.place s.kind) || c.lock
 
 abbrev pub moved_out : Value → List Obj → List Obj
 moved_out (value.Object o) own = o ∷ own
 moved_out _ own = own
 
-abbrev pub store : CState → Frame → Place → Value → CState
-store c f p v = record c { places = set_spots c.places f.file (put_spot (spots_at c.places f.file) p v) }
+abbrev pub store : CState → ℕ → Place → Value → CState
+store c k p v = record c { places = set_spots c.places k (put_spot (spots_at c.places k) p v) }
 
 abbrev pub store_value : CState → Frame → List Frame → Place → Value → Value → Moved
 store_value c f fs p old (value.Object o) =
     need (has f.own o) fault.Unheld
-    (Went (on (store c f p (value.Object o)) (record f { own = moved_out old (lose f.own o) }) fs))
-store_value c f fs p old v = Went (on (store c f p v) (record f { own = moved_out old f.own }) fs)
+    (Went (on (store c f.file p (value.Object o)) (record f { own = moved_out old (lose f.own o) }) fs))
+store_value c f fs p old v = Went (on (store c f.file p v) (record f { own = moved_out old f.own }) fs)
 
 abbrev pub assign_place : CState → Frame → List Frame → Place → CValue → Reading → Spot → Moved
 assign_place c f fs p k v s =
     need (converts v.kind s.kind) fault.Stuck
     (need (may_store s) fault.Stuck
     (need (is_set v.value) fault.Undefined
-    (need (may_read c k && may_write c p) fault.Unlocked
-    (store_value (lend (lends k v.value) c) f fs p s.value v.value))))
+    (need (may_read c k v && may_write c s) fault.Unlocked
+    (store_value (lend (lends k v) c) f fs p s.value v.value))))
 
 abbrev pub assign : CState → Frame → List Frame → Target → CValue → Reading → Moved
 assign c f fs (target.Variable x) k v = need_some (lookup f.variables x) fault.Stuck (assign_variable c f fs x k v)
@@ -136,25 +137,71 @@ row_result row.ErrSetString f x = is_none x
 row_result _ f x = receives f.variables x kind.PyObject
 
 -- the operation that a row asks
-abbrev pub op_of : ApiRow → List Value → Option Op
-op_of (row.Number b) (value.Object x ∷ value.Object y ∷ []) = Some (op.Binary b x y)
-op_of row.ModuleCreate (value.Definition n ∷ []) = Some (op.Module n)
-op_of row.ModuleGetDict (value.Object x ∷ []) = Some (op.Dict x)
-op_of row.ImportModule (value.Text n ∷ []) = Some (op.Import n)
-op_of row.ErrSetString (value.Object x ∷ value.Text t ∷ []) = Some (op.Fail x t)
-op_of _ _ = None
+abbrev pub object_of : Option Reading → Option Obj
+object_of None = None
+object_of (Some v) = by_value v.value
+  where
+    by_value : Value → Option Obj
+    by_value (value.Object o) = Some o
+    by_value _ = None
+
+abbrev pub text_of : Option Reading → Option (List ℕ)
+text_of None = None
+text_of (Some v) = by_value v.value
+  where
+    by_value : Value → Option (List ℕ)
+    by_value (value.Text t) = Some t
+    by_value _ = None
+
+abbrev pub definition_of : Option Reading → Option (List ℕ)
+definition_of None = None
+definition_of (Some v) = by_value v.value
+  where
+    by_value : Value → Option (List ℕ)
+    by_value (value.Definition n) = Some n
+    by_value _ = None
+
+abbrev pub binary_op : BinaryOp → Option Obj → Option Obj → Option Op
+binary_op b (Some x) (Some y) = Some (op.Binary b x y)
+binary_op b _ _ = None
+
+abbrev pub module_op : Option (List ℕ) → Option Op
+module_op (Some n) = Some (op.Module n)
+module_op None = None
+
+abbrev pub dict_op : Option Obj → Option Op
+dict_op (Some x) = Some (op.Dict x)
+dict_op None = None
+
+abbrev pub import_op : Option (List ℕ) → Option Op
+import_op (Some n) = Some (op.Import n)
+import_op None = None
+
+abbrev pub fail_op : Option Obj → Option (List ℕ) → Option Op
+fail_op (Some x) (Some t) = Some (op.Fail x t)
+fail_op _ _ = None
+
+abbrev pub op_of : ApiRow → List Reading → Option Op
+op_of (row.Number b) vs = binary_op b (object_of (slice_get vs 0)) (object_of (slice_get vs 1))
+op_of row.ModuleCreate vs = module_op (definition_of (slice_get vs 0))
+op_of row.ModuleGetDict vs = dict_op (object_of (slice_get vs 0))
+op_of row.ImportModule vs = import_op (text_of (slice_get vs 0))
+op_of row.ErrSetString vs = fail_op (object_of (slice_get vs 0)) (text_of (slice_get vs 1))
 
 -- the error row may be called with an exception set, but sets none over another; every other row needs that none is set
 abbrev pub error_fault : ApiRow → FaultKind
 error_fault row.ErrSetString = fault.ErrorLost
 error_fault _ = fault.ErrorSet
 
+abbrev pub asking : CState → Frame → List Frame → Option Variable → ApiRow → Op → CState
+asking c f fs x r o = tell (event.Ask o) (on (record c { loans = [] }) (record f { doing = doing.Asks o r x }) fs)
+
 abbrev pub ask : CState → Frame → List Frame → Option Variable → ApiRow → List Reading → Op → Moved
 ask c f fs x r vs o =
     need c.lock fault.Unlocked
     (need (is_none c.error) (error_fault r)
     (need (all_held c f (passed vs)) fault.Unheld
-    (Went (tell (event.Ask o) (on (record c { loans = [] }) (record f { doing = doing.Asks o r x }) fs)))))
+    (Went (asking c f fs x r o))))
 
 -- `x = Py..(k, ..);`
 abbrev pub api : CState → Frame → List Frame → Option Variable → ApiRow → List Reading → Moved
@@ -163,7 +210,7 @@ api c f fs x r vs =
     (need (not (any_null vs)) fault.Stuck
     (need (row_result r f x) fault.Stuck
     (need (all_set vs) fault.Undefined
-    (need_some (op_of r (values_of vs)) fault.Stuck (ask c f fs x r vs)))))
+    (need_some (op_of r vs) fault.Stuck (ask c f fs x r vs)))))
 
 -- `x = cyc_f_M_K(k, ..);`
 abbrev pub call_found : CState → Frame → List Frame → Option Variable → List CValue → List Reading → Found → Moved
@@ -172,9 +219,9 @@ call_found c f fs x ks vs (FoundFunction k fn) =
     need (fits (parameter_kinds fn.head) vs) fault.Stuck
     (need (receives f.variables x (result_kind fn.head)) fault.Stuck
     (need (all_set vs) fault.Undefined
-    (need (not (any_module_variable ks) || c.lock) fault.Unlocked
+    (need (not (any_module_variable ks vs) || c.lock) fault.Unlocked
     (need (all_held c f (passed vs)) fault.Unheld
-    (Went (on (lend (lends_each ks vs) c) (frame_of k fn (values_of vs) (passed vs) entered.FromC c.lock) (record f { doing = doing.Waits x } ∷ fs)))))))
+    (Went (on (record c { loans = loans_after ks vs c.loans }) (frame_of k fn (values_of vs) (passed vs) entered.FromC c.lock) (record f { doing = doing.Waits x } ∷ fs)))))))
 
 abbrev pub call : List CFile → CState → Frame → List Frame → Option Variable → FunctionName → List CValue → List Reading → Moved
 call files c f fs x name ks vs = call_found c f fs x ks vs (function_named files f.file name)
@@ -197,7 +244,7 @@ counted c v m =
     (need c.lock fault.Unlocked m)))
 
 abbrev pub incref : CState → Frame → List Frame → CValue → Reading → Moved
-incref c f fs k v = counted c v (owned_more (lend (lends k v.value) c) f fs v.value)
+incref c f fs k v = counted c v (owned_more (lend (lends k v) c) f fs v.value)
 
 abbrev pub decref : CState → Frame → List Frame → Reading → Moved
 decref c f fs v = counted c v (owned_less c f fs v.value)
@@ -230,8 +277,8 @@ abbrev pub goto_if : CState → Frame → List Frame → CValue → Reading → 
 goto_if c f fs a v r b w ls =
     need (comparable v.kind w.kind) fault.Stuck
     (need (is_set v.value && is_set w.value) fault.Undefined
-    (need (may_read c a && may_read c b) fault.Unlocked
-    (branch (lend (lends a v.value ++ lends b w.value) c) f fs ls (by_comparison r (same_value v.value w.value)))))
+    (need (may_read c a v && may_read c b w) fault.Unlocked
+    (branch (lend (lends b w) (lend (lends a v) c)) f fs ls (by_comparison r (same_value v.value w.value)))))
 
 -- `return k;`: the result goes to the frame that called, or to the outside
 abbrev pub to_waiting : CState → Frame → List Frame → Value → List Obj → Doing → Moved
@@ -279,8 +326,8 @@ abbrev pub return_it : CState → Frame → List Frame → CValue → Reading �
 return_it c f fs k v =
     need (converts v.kind (result_kind f.function.head)) fault.Stuck
     (need (is_set v.value) fault.Undefined
-    (need (may_read c k && same_lock c.lock f.lock) fault.Unlocked
-    (return_value (lend (lends k v.value) c) f fs v.value)))
+    (need (may_read c k v && same_lock c.lock f.lock) fault.Unlocked
+    (return_value (lend (lends k v) c) f fs v.value)))
 
 -- one statement, with the lines after it in the frame
 abbrev pub act : List CFile → CState → Frame → List Frame → CStmt → Moved

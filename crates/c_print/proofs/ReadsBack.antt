@@ -5,8 +5,8 @@ use Rattle.std.specs.List.{flat_map, AllByRecursion}
 use Rattle.c_mach.specs.CTokens.{CToken, Word, sign, word, Fresh, Text, Between, InWord, InQuotes, c_tokens, tokens_from}
 use Rattle.c_mach.specs.CReading.{c_items, c_reading, spelling, type_spelling, variable_spelling, place_name, function_name, row_name, exception_name, numbered_name, string_spelling, value_spelling, comparison_spelling, target_spelling, destination_spelling, listed_spelling, call_spelling, goto_spelling, label_spelling, statement_spelling, line_spelling, initial_spelling, declaration_spelling, parameter_spelling, void_or, plain_head_spelling, head_spelling, body_spelling, method_spelling, IsNumberInForm, IsVariableInForm, IsPlaceInForm, IsFunctionNameInForm, IsValueInForm, IsTargetInForm, IsDestinationInForm, IsStatementInForm, IsLineInForm, IsDeclarationInForm, IsParameterInForm, IsHeadInForm, IsFunctionInForm, IsMethodInForm, IsItemInForm, IsFileInForm, IsReading}
 use Rattle.c_mach.proofs.Items.{cut_spellings, read_spellings}
-use Rattle.c_mach.proofs.Unique.{type_spelling_first, parameter_spelling_first, reading_unique}
-use Rattle.c_mach.proofs.Tokens.{Stops, StopsSign, stops_sign, begun, word_tokens, star_tokens, name_append, decimal_name, number_tokens, join_tokens, string_tokens}
+use Rattle.c_mach.proofs.Unique.{operand_value, type_spelling_first, parameter_spelling_first, reading_unique}
+use Rattle.c_mach.proofs.Tokens.{Stops, StopsSign, stops_sign, begun, word_tokens, star_tokens, name_append, name_words, decimal_name, number_tokens, join_tokens, string_tokens}
 use Rattle.c_print.specs.CText.{fixed_text, listed, type_text, type_before, variable_text, place_text, numbered, function_text, row_text, exception_text, byte_text, string_text, value_text, comparison_text, target_text, destination_text, arguments_text, goto_text, statement_text, line_text, initial_text, declaration_text, parameter_text, or_void, head_text, body_text, method_text, item_text, file_text}
 use Rattle.c_mach.specs.declared.BinaryOp.TheVariants as op
 use Rattle.c_mach.specs.declared.Exception.{Exception}
@@ -95,7 +95,7 @@ function_tokens : (begins : Bool) (f : FunctionName) (rest : List ℕ) → IsFun
 unfolding tokens_from
 function_tokens begins (function.Plain m k) rest h stops = numbers_tokens begins (codes "cyc_f_") m k rest h.0 h.1 stops
 function_tokens begins (function.Wrapper m k) rest h stops = numbers_tokens begins (codes "cyc_w_") m k rest h.0 h.1 stops
-function_tokens begins (function.Initializer name) rest h stops = word_tokens begins (codes "PyInit_") name rest h stops
+function_tokens begins (function.Initializer name) rest h stops = word_tokens begins (codes "PyInit_") name rest (name_words name h) stops
 
 row_tokens : (begins : Bool) (f : ApiRow) (rest : List ℕ) → Stops rest
     → tokens_from (Between (begun begins)) (row_text f ++ rest) ≡ Word (row_name f) ∷ tokens_from (Between Text) rest
@@ -283,7 +283,7 @@ test_tokens a c b label rest h i j =
 statement_tokens : (s : CStmt) (rest : List ℕ) → IsStatementInForm s
     → tokens_from (Between Fresh) (statement_text s ++ rest) ≡ statement_spelling s ++ tokens_from (Between Fresh) rest
 unfolding tokens_from
-statement_tokens (stmt.Assign x v) rest h = assign_tokens x v rest h.0 h.1
+statement_tokens (stmt.Assign x v) rest h = assign_tokens x v rest h.0 (operand_value v h.1)
 statement_tokens (stmt.Api x f values) rest h =
     destined_tokens x (row_text f ++ arguments_text values) (call_spelling (row_name f) values) rest h.0
     (λ begins. call_tokens begins (row_text f) (row_name f) values rest (row_tokens begins f) h.1)
@@ -294,10 +294,10 @@ statement_tokens (stmt.Incref v) rest h =
     ap (λ t. word "Py_INCREF" ∷ sign "(" ∷ t) (value_end v (codes ");\n") (sign ")" ∷ sign ";" ∷ []) rest h (refl, refl) refl)
 statement_tokens (stmt.Decref v) rest h =
     ap (λ t. word "Py_DECREF" ∷ sign "(" ∷ t) (value_end v (codes ");\n") (sign ")" ∷ sign ";" ∷ []) rest h (refl, refl) refl)
-statement_tokens (stmt.GotoIf a c b label) rest h = test_tokens a c b label rest h.0 h.1 h.2
+statement_tokens (stmt.GotoIf a c b label) rest h = test_tokens a c b label rest (operand_value a h.0) (operand_value b h.1) h.2
 statement_tokens (stmt.Goto label) rest h = goto_tokens false label rest h
 statement_tokens (stmt.Return v) rest h =
-    ap (λ t. word "return" ∷ t) (value_end v (codes ";\n") (sign ";" ∷ []) rest h (refl, refl) refl)
+    ap (λ t. word "return" ∷ t) (value_end v (codes ";\n") (sign ";" ∷ []) rest (operand_value v h) (refl, refl) refl)
 
 line_tokens : (l : Line) (rest : List ℕ) → IsLineInForm l
     → tokens_from (Between Fresh) (line_text l ++ rest) ≡ line_spelling l ++ tokens_from (Between Fresh) rest
@@ -408,7 +408,7 @@ head_tokens (head.Wrapper m k) rest h =
 head_tokens (head.Initializer name) rest h =
     ap (λ t. word "PyMODINIT_FUNC" ∷ t)
     (join_tokens (InWord Text (codes "PyInit_")) (Between Text) (Between Fresh) name (codes "(void)\n") rest (Word (codes "PyInit_" ++ name) ∷ []) (c_tokens (codes "(void)"))
-    (word_tokens true (codes "PyInit_") name (codes "(void)\n" ++ rest) h (refl, refl)) refl)
+    (word_tokens true (codes "PyInit_") name (codes "(void)\n" ++ rest) (name_words name h) (refl, refl)) refl)
 
 -- ---- items
 

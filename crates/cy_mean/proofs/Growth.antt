@@ -39,7 +39,7 @@ use Rattle.c_mach.specs.Objects.{NewResult, Gave, Raises, new_result}
 use Rattle.c_mach.specs.World.{answer_in, read_in}
 use Rattle.c_mach.specs.State.{converts, Frame, CState}
 use Rattle.c_mach.specs.Reads.{after_label, read, lends, is_set, result_kind, Found, FoundFunction, NotFound, entered_by, initializer_from, initializer_name}
-use Rattle.c_mach.specs.Statements.{Moved, Went, Over, Faulted, need, need_some, on, tell, script_to, lend, may_read, may_store, may_write, same_lock, assign_variable, store_value, assign_place, assign, ask, api, call_found, call, owned_more, owned_less, counted, incref, decref, branch, goto_if, to_waiting, to_caller, hand_object, hand_null, return_value, return_it, act, run_line}
+use Rattle.c_mach.specs.Statements.{Moved, Went, Over, Faulted, need, need_some, on, off, tell, script_to, lend, may_read, may_store, may_write, same_lock, assign_variable, store_value, assign_place, assign, ask, api, call_found, call, owned_more, owned_less, counted, incref, decref, branch, goto_if, to_waiting, to_caller, hand_object, hand_null, return_value, return_it, act, run_line}
 use Rattle.c_mach.specs.Outside.{How, NewReference, Borrowed, SetsError, how, deliver_new, deliver_by, answered, called, await, top_called, top, begin}
 use Rattle.c_mach.specs.Machine.{by_frame, by_frames, by_course, move}
 use Rattle.cy_mean.specs.Sound.{Prefix}
@@ -85,11 +85,11 @@ variable_grows c f fs x k v cell = search grow_rules depth 20
 
 place_grows : (c : CState) (f : Frame) (fs : List Frame) (p : Place) (k : CValue) (v : Reading) (s : Spot) → Grows c.world.events c.course (assign_place c f fs p k v s)
 place_grows c f fs p k v s =
-    let h : Grows c.world.events c.course (store_value (lend (lends k v.value) c) f fs p s.value v.value) = store_grows (lend (lends k v.value) c) f fs p s.value v.value in
+    let h : Grows c.world.events c.course (store_value (lend (lends k v) c) f fs p s.value v.value) = store_grows (lend (lends k v) c) f fs p s.value v.value in
     let es = c.world.events in
     need_grows es c.course (converts v.kind s.kind) fault.Stuck _
     (need_grows es c.course (may_store s) fault.Stuck _
-    (need_grows es c.course (is_set v.value) fault.Undefined _ (need_grows es c.course (may_read c k && may_write c p) fault.Unlocked _ h)))
+    (need_grows es c.course (is_set v.value) fault.Undefined _ (need_grows es c.course (may_read c k v && may_write c s) fault.Unlocked _ h)))
 
 assign_grows : (c : CState) (f : Frame) (fs : List Frame) (t : Target) (k : CValue) (v : Reading) → Grows c.world.events c.course (assign c f fs t k v)
 assign_grows c f fs (target.Variable x) k v = some_grows _ _ _ _ _ (variable_grows c f fs x k v)
@@ -134,7 +134,7 @@ branch_grows c f fs ls false = stays c.world.events c.course _ refl refl
 
 goto_grows : (c : CState) (f : Frame) (fs : List Frame) (a : CValue) (v : Reading) (r : Comparison) (b : CValue) (w : Reading) (ls : List Line) → Grows c.world.events c.course (goto_if c f fs a v r b w ls)
 goto_grows c f fs a v r b w ls =
-    let h : (q : Bool) → Grows c.world.events c.course (branch (lend (lends a v.value ++ lends b w.value) c) f fs ls q) = branch_grows (lend (lends a v.value ++ lends b w.value) c) f fs ls in
+    let h : (q : Bool) → Grows c.world.events c.course (branch (lend (lends b w) (lend (lends a v) c)) f fs ls q) = branch_grows (lend (lends b w) (lend (lends a v) c)) f fs ls in
     search (need_grows, h) depth 20
 
 waiting_grows : (c : CState) (g : Frame) (gs : List Frame) (v : Value) (refs : List Obj) (d : Doing) → Grows c.world.events c.course (to_waiting c g gs v refs d)
@@ -162,11 +162,11 @@ value_grows c f fs v = search (grow_rules, caller_grows) depth 20
 
 return_grows : (c : CState) (f : Frame) (fs : List Frame) (k : CValue) (v : Reading) → Grows c.world.events c.course (return_it c f fs k v)
 return_grows c f fs k v =
-    let h : Grows c.world.events c.course (return_value (lend (lends k v.value) c) f fs v.value) = value_grows (lend (lends k v.value) c) f fs v.value in
+    let h : Grows c.world.events c.course (return_value (lend (lends k v) c) f fs v.value) = value_grows (lend (lends k v) c) f fs v.value in
     let es = c.world.events in
     need_grows es c.course (converts v.kind (result_kind f.function.head)) fault.Stuck _
     (need_grows es c.course (is_set v.value) fault.Undefined _
-    (need_grows es c.course (may_read c k && same_lock c.lock f.lock) fault.Unlocked _ h))
+    (need_grows es c.course (may_read c k v && same_lock c.lock f.lock) fault.Unlocked _ h))
 
 act_grows : (files : List CFile) (c : CState) (f : Frame) (fs : List Frame) (s : CStmt) → Grows c.world.events c.course (act files c f fs s)
 act_grows files c f fs (stmt.Assign t k) = some_grows _ _ _ _ _ (assign_grows c f fs t k)
@@ -229,9 +229,9 @@ called_grows c f fs o r x callee args NotFound g = answered_grows c f fs o r x (
 
 await_grows : (files : List CFile) (c : CState) (f : Frame) (fs : List Frame) (o : Op) (r : ApiRow) (x : Option Variable) (es : List Entry) → c.course ≡ course.Goes → After c (await files c f fs o r x es)
 await_grows files c f fs o r x [] g = closes c (await files c f fs o r x []) event.Stop refl (alone event.Stop)
-await_grows files c f fs o r x (entry.Die k ∷ es) g = silent c (script_to es c) refl g
+await_grows files c f fs o r x (entry.Die k ∷ es) g = silent c (script_to es (on c f fs)) refl g
 await_grows files c f fs o r x (entry.Enter callee args ∷ es) g =
-    called_grows (script_to es c) f fs o r x callee args (entered_by files c callee) g
+    called_grows (script_to es c) f fs o r x callee args (entered_by files c.places callee) g
 await_grows files c f fs o r x (e ∷ es) g = answered_grows (script_to es c) f fs o r x e g
 
 top_called_grows : (c : CState) (callee : Callee) (args : List Obj) (found : Found) → c.course ≡ course.Goes → After c (top_called c callee args found)
@@ -242,7 +242,7 @@ top_called_grows c callee args NotFound g = silent c c refl g
 top_grows : (files : List CFile) (c : CState) (es : List Entry) → c.course ≡ course.Goes → After c (top files c es)
 top_grows files c [] g = closes c (top files c []) event.End refl (alone event.End)
 top_grows files c (entry.Enter callee args ∷ es) g =
-    top_called_grows (script_to es c) callee args (entered_by files c callee) g
+    top_called_grows (script_to es c) callee args (entered_by files c.places callee) g
 top_grows files c (e ∷ es) g = silent c (script_to es c) refl g
 
 begin_grows : (files : List CFile) (c : CState) (found : Found) → c.course ≡ course.Goes → After c (begin files c found)
@@ -270,9 +270,16 @@ frame_grows files c f fs doing.Runs g =
 frame_grows files c f fs (doing.Asks o r x) g = await_grows files c f fs o r x c.world.script g
 frame_grows files c f fs (doing.Waits x) g = tt
 
+-- a move counts no frames
+framed : (c : CState) (fs : List Frame) (m : Moved) → AfterMove (off c fs) m → AfterMove c m
+framed c fs (Went d) h = h
+framed c fs Over h = tt
+framed c fs (Faulted f) h = tt
+
 frames_grow : (files : List CFile) (c : CState) (fs : List Frame) → c.course ≡ course.Goes → AfterMove c (by_frames files c fs)
-frames_grow files c [] g = begin_grows files c (initializer_from c.begun 0 files) g
-frames_grow files c (f ∷ fs) g = frame_grows files c f fs f.doing g
+frames_grow files c [] g = begin_grows files c (initializer_from c.begun files) g
+frames_grow files c (f ∷ fs) g =
+    framed c fs (by_frame files (off c fs) f fs f.doing) (frame_grows files (off c fs) f fs f.doing g)
 
 course_grows : (files : List CFile) (c : CState) (k : Course) → c.course ≡ k → AfterMove c (by_course files c k)
 course_grows files c course.Goes g = frames_grow files c c.frames g

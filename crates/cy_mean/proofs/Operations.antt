@@ -49,7 +49,7 @@ worlds s raised = record { state = source_at s.ready; raised = raised }
 -- an operation that a frame asks, where calls stand up to n deep: the machine follows its meaning to the answer, which is delivered
 abbrev pub AskFollows : Setting → ℕ → Type 0
 AskFollows s n =
-    (w : World) (f : Frame) (fs : List Frame) (o : Op) (r : ApiRow) (x : Option Variable) (b : ℕ) (raised : Obj → World → CState) → b ≤ n → Follows s.pace (worlds s raised) (λ a v. deliver r x a (standing s.base v (asking f o r x ∷ fs)) (asking f o r x) fs) any_value (standing s.base w (asking f o r x ∷ fs)) b 0 (await_within s.set n o (source_at s.ready w) b)
+    (w : World) (f : Frame) (fs : List Frame) (o : Op) (r : ApiRow) (x : Option Variable) (b : ℕ) (raised : Obj → World → CState) → b ≤ n → Follows s.pace (worlds s raised) (λ a v. deliver r x a (standing s.base v fs) (asking f o r x) fs) any_value (standing s.base w (asking f o r x ∷ fs)) b 0 (await_within s.set n o (source_at s.ready w) b)
 
 -- a call from outside of a function of the sources, which the C enters at its frame: the machine follows its meaning until it is back
 abbrev pub CallFollows : Setting → (n slack : ℕ) → Function → ℕ → CFunction → Type 0
@@ -65,14 +65,18 @@ Realised s None (FoundFunction k fn) = ⊥
 Realised s (Some g) NotFound = ⊥
 
 abbrev pub AllRealised : Setting → Type 0
-AllRealised s = (callee : Callee) → Realised s (called_by s.set s.ready callee) (entered_by s.pace.files s.base callee)
+AllRealised s = (callee : Callee) → Realised s (called_by s.set s.ready callee) (entered_by s.pace.files s.base.places callee)
 
 module _ (s : Setting) (f : Frame) (fs : List Frame) (o : Op) (r : ApiRow) (x : Option Variable) (b : ℕ) (raised : Obj → World → CState) where
   abbrev asked : World → CState
   asked w = standing s.base w (asking f o r x ∷ fs)
 
+  -- the state without the frame that asked
+  abbrev under : World → CState
+  under w = standing s.base w fs
+
   abbrev delivered : Answer → World → CState
-  delivered a w = deliver r x a (asked w) (asking f o r x) fs
+  delivered a w = deliver r x a (under w) (asking f o r x) fs
 
   abbrev AnswerFollows : CState → Outcome Answer → Type 0
   AnswerFollows c result = Follows s.pace (worlds s raised) delivered any_value c b 0 result
@@ -86,17 +90,17 @@ module _ (s : Setting) (f : Frame) (fs : List Frame) (o : Op) (r : ApiRow) (x : 
     Serves None (FoundFunction k fn) = ⊥
     Serves (Some g) NotFound = ⊥
 
-    gives_answer : (e : Entry) (w : World) (p : SourceState) (c : CState) → move s.pace.files c ≡ Went (answered (asked w) (asking f o r x) fs o r x e) → AnswerFollows c (by_next (Gives e (source_at s.ready w)) o p b go)
+    gives_answer : (e : Entry) (w : World) (p : SourceState) (c : CState) → move s.pace.files c ≡ Went (answered (under w) (asking f o r x) fs o r x e) → AnswerFollows c (by_next (Gives e (source_at s.ready w)) o p b go)
     gives_answer e w p c m =
-        (s.pace.weight, omega arith, omega arith, say (event.Answer (answer_in w o e)) w, refl, tt, one s.pace c (answered (asked w) (asking f o r x) fs o r x e) m)
+        (s.pace.weight, omega arith, omega arith, say (event.Answer (answer_in w o e)) w, refl, tt, one s.pace c (answered (under w) (asking f o r x) fs o r x e) m)
 
-    call_case : (g : Option Function) (found : Found) (callee : Callee) (args : List Obj) (w : World) (p : SourceState) (c : CState) → Serves g found → move s.pace.files c ≡ Went (called (asked w) (asking f o r x) fs o r x callee args found) → c.world.events ≡ w.events → AnswerFollows c (by_next (calls_or_gives g callee args (source_at s.ready w)) o p b go)
+    call_case : (g : Option Function) (found : Found) (callee : Callee) (args : List Obj) (w : World) (p : SourceState) (c : CState) → Serves g found → move s.pace.files c ≡ Went (called (under w) (asking f o r x) fs o r x callee args found) → c.world.events ≡ w.events → AnswerFollows c (by_next (calls_or_gives g callee args (source_at s.ready w)) o p b go)
     call_case None NotFound callee args w p c h m ev = gives_answer (entry.Enter callee args) w p c m
     call_case (Some g) (FoundFunction k fn) callee args w p c h m ev = h callee (read_in w args) w c m ev
     call_case None (FoundFunction k fn) callee args w p c h m ev = absurd h
     call_case (Some g) NotFound callee args w p c h m ev = absurd h
 
-    ask_runs : ((callee : Callee) → Serves (called_by s.set s.ready callee) (entered_by s.pace.files s.base callee)) → (es : List Entry) (w : World) → AnswerFollows (asked (with_script es w)) (by_next (next_inside s.set es (source_at s.ready w)) o (source_at s.ready w) b go)
+    ask_runs : ((callee : Callee) → Serves (called_by s.set s.ready callee) (entered_by s.pace.files s.base.places callee)) → (es : List Entry) (w : World) → AnswerFollows (asked (with_script es w)) (by_next (next_inside s.set es (source_at s.ready w)) o (source_at s.ready w) b go)
     ask_runs serves [] w =
         let c = asked (with_script [] w) in
         let d = tell event.Stop (script_to [] (record c { course = course.Stopped })) in
@@ -105,7 +109,7 @@ module _ (s : Setting) (f : Frame) (fs : List Frame) (o : Op) (r : ApiRow) (x : 
         moved s.pace (worlds s raised) delivered any_value (asked (with_script (entry.Die k ∷ es) w)) (asked (with_script es w)) b b 0 0 (by_next (next_inside s.set es (source_at s.ready w)) o (source_at s.ready w) b go) refl (omega arith) (omega arith) (ask_runs serves es w)
     ask_runs serves (entry.Enter callee args ∷ es) w =
         let w0 = with_script (entry.Enter callee args ∷ es) w in
-        call_case (called_by s.set s.ready callee) (entered_by s.pace.files s.base callee) callee args (with_script es w) (source_at s.ready w) (asked w0) (serves callee) refl refl
+        call_case (called_by s.set s.ready callee) (entered_by s.pace.files s.base.places callee) callee args (with_script es w) (source_at s.ready w) (asked w0) (serves callee) refl refl
     ask_runs serves (e ∷ es) w =
         gives_answer e (with_script es w) (source_at s.ready w) (asked (with_script (e ∷ es) w)) refl
 
@@ -128,7 +132,7 @@ module _ (s : Setting) where
   call_then n asks f fs o r x (suc b) raised le slack k g fn pays follows callee args w c m ev =
       let top = asking f o r x ∷ fs in
       let joint = worlds s raised in
-      let at = λ (a : Answer) (v : World). deliver r x a (standing s.base v top) (asking f o r x) fs in
+      let at = λ (a : Answer) (v : World). deliver r x a (standing s.base v fs) (asking f o r x) fs in
       let c1 = enter (standing s.base w top) top callee args k fn in
       let run = leave (call_of (await_within s.set n) g args (source_at s.ready (say (event.Enter callee args) w)) b) in
       let go_on = λ (e : Back) (p2 : SourceState) (b2 : ℕ). await_within s.set n o p2 b2 in
@@ -147,6 +151,6 @@ module _ (s : Setting) where
   -- where all functions do what they mean, all operations do, at any depth
   pub asks_follow : AllRealised s → (n : ℕ) → AskFollows s n
   asks_follow all zero w f fs o r x b raised le =
-      ask_runs s f fs o r x b raised (λ callee g args p. Out p) (λ callee. no_unit s f fs o r x b raised le (called_by s.set s.ready callee) (entered_by s.pace.files s.base callee) (all callee)) w.script w
+      ask_runs s f fs o r x b raised (λ callee g args p. Out p) (λ callee. no_unit s f fs o r x b raised le (called_by s.set s.ready callee) (entered_by s.pace.files s.base.places callee) (all callee)) w.script w
   asks_follow all (suc n) w f fs o r x b raised le =
-      ask_runs s f fs o r x b raised (again s f fs o r x b raised n) (λ callee. serves_again n (asks_follow all n) f fs o r x b raised le (called_by s.set s.ready callee) (entered_by s.pace.files s.base callee) (all callee)) w.script w
+      ask_runs s f fs o r x b raised (again s f fs o r x b raised n) (λ callee. serves_again n (asks_follow all n) f fs o r x b raised le (called_by s.set s.ready callee) (entered_by s.pace.files s.base.places callee) (all callee)) w.script w

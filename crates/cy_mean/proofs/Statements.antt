@@ -22,8 +22,8 @@ use Rattle.c_mach.specs.declared.state.Reading.{Reading}
 use Rattle.c_mach.specs.declared.state.Doing.TheVariants as doing
 use Rattle.c_mach.specs.declared.state.Entered.TheVariants as entered
 use Rattle.c_mach.specs.State.{low_half, wrap_int, Frame, CState, has, held, all_held}
-use Rattle.c_mach.specs.Reads.{lends_each, all_set, any_null, any_module_variable, passed, values_of, fits, receives, Found, FoundFunction, function_named, parameter_kinds, result_kind, frame_of}
-use Rattle.c_mach.specs.Statements.{Moved, Went, need, need_some, on, tell, lend, takes, row_result, op_of, error_fault, ask, api, call_found, call}
+use Rattle.c_mach.specs.Reads.{loans_after, all_set, any_null, any_module_variable, passed, values_of, fits, receives, Found, FoundFunction, function_named, parameter_kinds, result_kind, frame_of}
+use Rattle.c_mach.specs.Statements.{Moved, Went, need, need_some, on, tell, takes, row_result, op_of, error_fault, ask, api, call_found, call}
 use Rattle.cy_mean.proofs.Same.{and_true, or_left, or_right, obj_same}
 
 -- objects as operands give them, and as values
@@ -82,7 +82,7 @@ pub needed : (t : Bool) (k : FaultKind) (m : Moved) → t ≡ true → need t k 
 needed t k m e = ap (λ q. need q k m) e
 
 -- a row that asks an operation
-pub api_asks : (c : CState) (f : Frame) (fs : List Frame) (x : Option Variable) (r : ApiRow) (vs : List Reading) (o : Op) → fits (takes r) vs ≡ true → any_null vs ≡ false → row_result r f x ≡ true → all_set vs ≡ true → op_of r (values_of vs) ≡ Some o → c.lock ≡ true → is_none c.error ≡ true → all_held c f (passed vs) ≡ true → api c f fs x r vs ≡ Went (tell (event.Ask o) (on (record c { loans = [] }) (record f { doing = doing.Asks o r x }) fs))
+pub api_asks : (c : CState) (f : Frame) (fs : List Frame) (x : Option Variable) (r : ApiRow) (vs : List Reading) (o : Op) → fits (takes r) vs ≡ true → any_null vs ≡ false → row_result r f x ≡ true → all_set vs ≡ true → op_of r vs ≡ Some o → c.lock ≡ true → is_none c.error ≡ true → all_held c f (passed vs) ≡ true → api c f fs x r vs ≡ Went (tell (event.Ask o) (on (record c { loans = [] }) (record f { doing = doing.Asks o r x }) fs))
 api_asks c f fs x r vs o ef en er es ep el ee eh =
     needed (fits (takes r) vs) fault.Stuck _ ef
     ∙ needed (not (any_null vs)) fault.Stuck _ (ap not en)
@@ -94,16 +94,16 @@ api_asks c f fs x r vs o ef en er es ep el ee eh =
     ∙ needed (all_held c f (passed vs)) fault.Unheld _ eh
 
 -- a call of a C function with objects that are held, none of them a module variable
-pub call_enters : (files : List CFile) (c : CState) (f : Frame) (fs : List Frame) (x : Option Variable) (name : FunctionName) (ks : List CValue) (args : List Obj) (k : ℕ) (fn : CFunction) → function_named files f.file name ≡ FoundFunction k fn → parameter_kinds fn.head ≡ object_kinds args → receives f.variables x (result_kind fn.head) ≡ true → any_module_variable ks ≡ false → lends_each ks (object_readings args) ≡ [] → all_held c f args ≡ true → call files c f fs x name ks (object_readings args) ≡ Went (on c (frame_of k fn (object_values args) args entered.FromC c.lock) (record f { doing = doing.Waits x } ∷ fs))
+pub call_enters : (files : List CFile) (c : CState) (f : Frame) (fs : List Frame) (x : Option Variable) (name : FunctionName) (ks : List CValue) (args : List Obj) (k : ℕ) (fn : CFunction) → function_named files f.file name ≡ FoundFunction k fn → parameter_kinds fn.head ≡ object_kinds args → receives f.variables x (result_kind fn.head) ≡ true → any_module_variable ks (object_readings args) ≡ false → loans_after ks (object_readings args) c.loans ≡ c.loans → all_held c f args ≡ true → call files c f fs x name ks (object_readings args) ≡ Went (on c (frame_of k fn (object_values args) args entered.FromC c.lock) (record f { doing = doing.Waits x } ∷ fs))
 call_enters files c f fs x name ks args k fn ef ek er em el eh =
     let vs = object_readings args in
-    let done = λ (ls : List Obj) (values : List Value) (lent : List Obj). Went (on (lend ls c) (frame_of k fn values lent entered.FromC c.lock) (record f { doing = doing.Waits x } ∷ fs)) in
+    let done = λ (ls : List Obj) (values : List Value) (lent : List Obj). Went (on (record c { loans = ls }) (frame_of k fn values lent entered.FromC c.lock) (record f { doing = doing.Waits x } ∷ fs)) in
     ap (λ (q : Found). call_found c f fs x ks vs q) ef
     ∙ needed (fits (parameter_kinds fn.head) vs) fault.Stuck _ (ap (λ (q : List Kind). fits q vs) ek ∙ objects-fit args)
     ∙ needed (receives f.variables x (result_kind fn.head)) fault.Stuck _ er
     ∙ needed (all_set vs) fault.Undefined _ (objects-set args)
-    ∙ needed (not (any_module_variable ks) || c.lock) fault.Unlocked _ (or_left _ c.lock (ap not em))
+    ∙ needed (not (any_module_variable ks vs) || c.lock) fault.Unlocked _ (or_left _ c.lock (ap not em))
     ∙ needed (all_held c f (passed vs)) fault.Unheld _ (ap (λ (l : List Obj). all_held c f l) (objects-passed args) ∙ eh)
     ∙ ap (λ (l : List Obj). done l (values_of vs) (passed vs)) el
-    ∙ ap (λ (l : List Value). done [] l (passed vs)) (objects-values args)
-    ∙ ap (λ (l : List Obj). done [] (object_values args) l) (objects-passed args)
+    ∙ ap (λ (l : List Value). done c.loans l (passed vs)) (objects-values args)
+    ∙ ap (λ (l : List Obj). done c.loans (object_values args) l) (objects-passed args)

@@ -22,7 +22,7 @@ use Rattle.c_mach.specs.Objects.{NewResult, Gave, Raises, new_result}
 use Rattle.c_mach.specs.World.{answer_in}
 use Rattle.c_mach.specs.State.{Frame, CState}
 use Rattle.c_mach.specs.Reads.{Found, FoundFunction, NotFound, entered_by, initializer_from}
-use Rattle.c_mach.specs.Statements.{Moved, Went, Over, Faulted, tell, script_to}
+use Rattle.c_mach.specs.Statements.{Moved, Went, Over, Faulted, off, tell, script_to}
 use Rattle.c_mach.specs.Outside.{How, NewReference, Borrowed, SetsError, how, deliver_new, deliver_by, answered, called, await, top_called, top, begin, idle}
 use Rattle.c_mach.specs.Machine.{by_frame, by_frames, by_course, move, is_asking, none_runs, outside_by, outside, went_or, settle_for, settle, over_answer, stepped, c_step, c_steps}
 use Rattle.cy_mean.specs.Sound.{Prefix}
@@ -63,7 +63,7 @@ module _ (files : List CFile) where
   await_shrinks c f fs o r x [] g = inl refl
   await_shrinks c f fs o r x (entry.Die k ∷ es) g = inr (omega arith)
   await_shrinks c f fs o r x (entry.Enter callee args ∷ es) g =
-      inl (called_runs (script_to es c) f fs o r x callee args (entered_by files c callee) g)
+      inl (called_runs (script_to es c) f fs o r x callee args (entered_by files c.places callee) g)
   await_shrinks c f fs o r x (e ∷ es) g = inl (answered_runs (script_to es c) f fs o r x e g)
 
   top_called_shrinks : (c : CState) (callee : Callee) (args : List Obj) (found : Found) (n : ℕ) → c.course ≡ course.Goes → suc (length c.world.script) ≤ n → (outside (top_called c callee args found) ≡ false) ⊎ (suc (length (top_called c callee args found).world.script) ≤ n)
@@ -74,7 +74,7 @@ module _ (files : List CFile) where
   top_shrinks : (c : CState) (es : List Entry) → c.course ≡ course.Goes → (outside (top files c es) ≡ false) ⊎ (suc (length (top files c es).world.script) ≤ length es)
   top_shrinks c [] g = inl refl
   top_shrinks c (entry.Enter callee args ∷ es) g =
-      top_called_shrinks (script_to es c) callee args (entered_by files c callee) (suc (length es)) g (omega arith)
+      top_called_shrinks (script_to es c) callee args (entered_by files c.places callee) (suc (length es)) g (omega arith)
   top_shrinks c (e ∷ es) g = inr (omega arith)
 
   begin_shrinks : (c : CState) (found : Found) → c.course ≡ course.Goes → Shrinks c (begin files c found)
@@ -94,8 +94,10 @@ module _ (files : List CFile) where
 
   frames_shift : (c : CState) (fs : List Frame) → c.course ≡ course.Goes → none_runs fs ≡ true → Shift c (by_frames files c fs)
   frames_shift c [] g o =
-      record { to = idle files c; is = refl; shrinks = begin_shrinks c (initializer_from c.begun 0 files) g }
-  frames_shift c (f ∷ fs) g o = frame_shift c f fs f.doing g o
+      record { to = idle files c; is = refl; shrinks = begin_shrinks c (initializer_from c.begun files) g }
+  frames_shift c (f ∷ fs) g o =
+      let s = frame_shift (off c fs) f fs f.doing g o in
+      record { to = s.to; is = s.is; shrinks = s.shrinks }
 
   course_shift : (c : CState) (k : Course) → c.course ≡ k → outside_by c k ≡ true → Shift c (by_course files c k)
   course_shift c course.Goes e o = frames_shift c c.frames e o

@@ -39,7 +39,7 @@ is_over pace e j = (move pace.files j.c ≡ Over) × (j.c.world.events ≡ j.sou
 abbrev pub RunFollows : Pace → CState → (b slack : ℕ) → Outcome Back → Type 0
 RunFollows pace c b slack result = Follows pace both c_of (is_over pace) c b slack result
 
-module _ (s : Setting) (all : AllRealised s) (begun : initializer_from s.base.begun 0 s.pace.files ≡ NotFound) where
+module _ (s : Setting) (all : AllRealised s) (begun : initializer_from s.base.begun s.pace.files ≡ NotFound) where
   abbrev idle : World → CState
   idle w = standing s.base w []
 
@@ -65,7 +65,7 @@ module _ (s : Setting) (all : AllRealised s) (begun : initializer_from s.base.be
   call_case b go None (FoundFunction k fn) callee args w c rest p h m ev more = absurd h
   call_case b go (Some g) NotFound callee args w c rest p h m ev more = absurd h
 
-  top_runs : (b : ℕ) (go : Callee → Function → List Obj → SourceState → Outcome Back) → ((callee : Callee) → Goes b go (called_by s.set s.ready callee) (entered_by s.pace.files s.base callee)) → (es : List Entry) (w : World) → RunFollows s.pace (idle (with_script es w)) b 0 (by_next_top (next_top s.set es (source_at s.ready w)) (source_at s.ready w) b go)
+  top_runs : (b : ℕ) (go : Callee → Function → List Obj → SourceState → Outcome Back) → ((callee : Callee) → Goes b go (called_by s.set s.ready callee) (entered_by s.pace.files s.base.places callee)) → (es : List Entry) (w : World) → RunFollows s.pace (idle (with_script es w)) b 0 (by_next_top (next_top s.set es (source_at s.ready w)) (source_at s.ready w) b go)
   top_runs b go goes [] w =
       let c = idle (with_script [] w) in
       let w1 = say event.End (with_script [] w) in
@@ -73,7 +73,7 @@ module _ (s : Setting) (all : AllRealised s) (begun : initializer_from s.base.be
       (s.pace.weight, omega arith, omega arith, record { c = d; source = source_at s.ready w1 }, refl, (refl, refl), one s.pace c d (takes (with_script [] w)))
   top_runs b go goes (entry.Enter callee args ∷ es) w =
       let w0 = with_script (entry.Enter callee args ∷ es) w in
-      call_case b go (called_by s.set s.ready callee) (entered_by s.pace.files s.base callee) callee args (with_script es w) (idle w0) (next_top s.set es (source_at s.ready w)) (source_at s.ready w) (goes callee) (takes w0) refl (top_runs b go goes es w)
+      call_case b go (called_by s.set s.ready callee) (entered_by s.pace.files s.base.places callee) callee args (with_script es w) (idle w0) (next_top s.set es (source_at s.ready w)) (source_at s.ready w) (goes callee) (takes w0) refl (top_runs b go goes es w)
   top_runs b go goes (e ∷ es) w =
       let c = idle (with_script (e ∷ es) w) in
       moved s.pace both c_of (is_over s.pace) c (idle (with_script es w)) b b 0 0 (by_next_top (next_top s.set es (source_at s.ready w)) (source_at s.ready w) b go) (takes (with_script (e ∷ es) w)) (omega arith) (omega arith) (top_runs b go goes es w)
@@ -109,6 +109,6 @@ module _ (s : Setting) (all : AllRealised s) (begun : initializer_from s.base.be
   -- once all initialisations have begun, the machine follows the entries at top level to the end of the run
   pub top_follows : (n : ℕ) (w : World) (b : ℕ) → b ≤ n → RunFollows s.pace (idle w) b 0 (top_within s.set n (source_at s.ready w) b)
   top_follows zero w b le =
-      top_runs b (λ callee g args p. Out p) (λ callee. no_unit b le (called_by s.set s.ready callee) (entered_by s.pace.files s.base callee) (all callee)) w.script w
+      top_runs b (λ callee g args p. Out p) (λ callee. no_unit b le (called_by s.set s.ready callee) (entered_by s.pace.files s.base.places callee) (all callee)) w.script w
   top_follows (suc n) w b le =
-      top_runs b (then_top n b) (λ callee. goes_on n (λ v left le2. top_follows n v left le2) b le (called_by s.set s.ready callee) (entered_by s.pace.files s.base callee) (all callee)) w.script w
+      top_runs b (then_top n b) (λ callee. goes_on n (λ v left le2. top_follows n v left le2) b le (called_by s.set s.ready callee) (entered_by s.pace.files s.base.places callee) (all callee)) w.script w

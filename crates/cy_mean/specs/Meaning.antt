@@ -1,6 +1,7 @@
 -- What the sources mean: the events of a run within a budget. It knows neither counts nor frames nor statements of C.
 -- The budget is threaded: each expression node, statement node and call from outside takes one unit before it does anything.
 use Rattle.std.specs.Prelude.{ℕ, zero, suc, List, [], ◌∷◌, ◌++◌, Option, Some, None, length, if◌then◌else◌, nat_eq, codes}
+use Rattle.std.specs.Str.{bytes_eq}
 use Rattle.c_mach.specs.declared.space.Exception.{Exception}
 use Rattle.c_mach.specs.declared.space.Exception.TheVariants as exception
 use Rattle.c_mach.specs.declared.space.Obj.{Obj}
@@ -14,7 +15,7 @@ use Rattle.c_mach.specs.declared.space.Op.TheVariants as op
 use Rattle.c_mach.specs.declared.space.Answer.{Answer}
 use Rattle.c_mach.specs.declared.space.Event.{Event}
 use Rattle.c_mach.specs.declared.space.Event.TheVariants as event
-use Rattle.c_mach.specs.Objects.{same_bytes, NewResult, Gave, Raises, new_result, sure_result}
+use Rattle.c_mach.specs.Objects.{NewResult, Gave, Raises, new_result, sure_result}
 use Rattle.c_mach.specs.World.{World, first_world, say, with_script, answer_in, read_in}
 use Rattle.cy_mean.specs.Texts.{arity_text}
 use Rattle.cy_mean.specs.Source.{Expression, Named, Binary, Statement, Return, Function, Module, Sources}
@@ -116,7 +117,7 @@ pub record Local : Type 0 where
 -- the value of a local name, if it has one (Cython documentation, Language Basics, "Scope rules")
 abbrev pub local_of : List Local → List ℕ → Option Obj
 local_of [] x = None
-local_of (l ∷ ls) x = if same_bytes l.name x then Some l.value else local_of ls x
+local_of (l ∷ ls) x = if bytes_eq l.name x then Some l.value else local_of ls x
 
 -- the parameters with their arguments
 abbrev pub bind_all : List (List ℕ) → List Obj → List Local
@@ -125,6 +126,7 @@ bind_all (x ∷ xs) [] = []
 bind_all (x ∷ xs) (o ∷ os) = record { name = x; value = o } ∷ bind_all xs os
 
 -- reading a local that has no value raises UnboundLocalError with the name
+-- On this path every name of an expression is a parameter, so that the rule for globals isn't needed yet.
 abbrev pub local_value : Awaiter → List ℕ → Option Obj → SourceState → ℕ → Outcome Obj
 local_value await x (Some o) s b = Value o s b
 local_value await x None s b = raising await exception.UnboundLocalError x s b
@@ -202,14 +204,14 @@ pub data Next : Type 0 where
 -- the function of that name that a module's text defines
 abbrev pub function_in : List Function → List ℕ → Option Function
 function_in [] name = None
-function_in (f ∷ fs) name = if same_bytes f.name name then Some f else function_in fs name
+function_in (f ∷ fs) name = if bytes_eq f.name name then Some f else function_in fs name
 
 -- the function that the outside names, in the first module of that name, if that is ready
 abbrev pub function_of : Sources → List ReadyModule → List ℕ → List ℕ → Option Function
 function_of [] rs module_name name = None
 function_of (m ∷ ms) [] module_name name = None
 function_of (m ∷ ms) (r ∷ rs) module_name name =
-    if same_bytes m.name module_name then function_in m.functions name else function_of ms rs module_name name
+    if bytes_eq m.name module_name then function_in m.functions name else function_of ms rs module_name name
 
 -- what an entry calls, where it fits; there is no class yet that has methods
 abbrev pub called_by : Sources → List ReadyModule → Callee → Option Function

@@ -1,14 +1,16 @@
 -- The trees that are written for a thin file are trees of the profile.
-use Rattle.std.proofs.Common.{◌≡◌, ℕ, zero, suc, ◌+◌, ◌<◌, ◌≤◌, true, List, [], ◌∷◌, ◌++◌, length, map, decimal, Option, Some, None, refl, Bool, arith}
+use Rattle.std.proofs.Common.{◌≡◌, ℕ, zero, suc, ◌+◌, ◌<◌, ◌≤◌, true, false, List, [], ◌∷◌, ◌++◌, length, map, decimal, Option, Some, None, refl, Bool, arith}
 use Rattle.std.specs.Prelude.{codes, unwrap_or, All, IsTrue, nat_lt, ◌&&◌}
+use Rattle.std.specs.Char.{is_ascii_digit}
 use Rattle.std.specs.List.{AllByRecursion, range_with_len}
 use Rattle.std.specs.Str.{bytes_eq}
+use Rattle.std.proofs.lemmas.Bool.{false≢true}
 use Rattle.std.proofs.lemmas.Bool.Decides.{nat_tests}
 use Rattle.std.proofs.lemmas.List.Elements.{recursion_from_All}
 use Rattle.std.proofs.lemmas.List.Quantifiers.{position-Some}
 use Rattle.c_mach.specs.CTokens.{is_word_byte}
-use Rattle.c_mach.specs.CReading.{IsNumberInForm, IsStringInForm, IsNameInForm, IsValueInForm, IsLineInForm, IsParameterInForm, IsFunctionInForm, IsMethodInForm, IsItemInForm, IsFileInForm}
-use Rattle.c_mach.proofs.Tokens.{decimal_name}
+use Rattle.c_mach.specs.CReading.{AreWordBytes, IsNumberInForm, IsStringInForm, IsNameInForm, IsValueInForm, IsLineInForm, IsParameterInForm, IsFunctionInForm, IsMethodInForm, IsItemInForm, IsFileInForm}
+use Rattle.c_mach.proofs.Tokens.{decimal_name, name_words}
 use Rattle.c_mach.specs.declared.Variable.TheVariants as variable
 use Rattle.c_mach.specs.declared.CValue.TheVariants as value
 use Rattle.c_mach.specs.declared.Comparison.TheVariants as comparison
@@ -16,7 +18,7 @@ use Rattle.c_mach.specs.declared.CStmt.TheVariants as stmt
 use Rattle.c_mach.specs.declared.Line.TheVariants as line
 use Rattle.cy_mean.specs.declared.ThinFunction.{ThinFunction}
 use Rattle.cy_mean.specs.Texts.{arity_text}
-use Rattle.cyc_top.specs.Thin.{IsThin, is_name_byte}
+use Rattle.cyc_top.specs.Thin.{IsThin, is_name_start, is_name_byte}
 use Rattle.cyc_top.specs.ThinC.{object_parameter, sum_function, wrong_count, wrapper_function, number_of, position_of, header_items, module_items, initialiser_function, thin_files}
 use Rattle.cyc_top.specs.Command.{IsIdentifier}
 
@@ -46,12 +48,19 @@ is_word_byte-name b h = grind (arith, nat_tests)
 word_byte_small : (b : ℕ) → is_word_byte b ≡ true → b < 256
 word_byte_small b h = grind (arith, nat_tests)
 
-name_in_form : (name : List ℕ) → All (λ byte. IsTrue (is_name_byte byte)) name → IsNameInForm name
-name_in_form name h =
+word_bytes : (name : List ℕ) → All (λ byte. IsTrue (is_name_byte byte)) name → AreWordBytes name
+word_bytes name h =
     every (λ b. IsTrue (is_name_byte b)) (λ b. is_word_byte b ≡ true) is_word_byte-name name
     (recursion_from_All (λ b. IsTrue (is_name_byte b)) name h)
 
-string_in_form : (name : List ℕ) → IsNameInForm name → IsStringInForm name
+no_digit-start : (b : ℕ) → IsTrue (is_name_start b) → is_ascii_digit b ≡ false
+no_digit-start b h = grind (arith, nat_tests)
+
+identifier_in_form : (name : List ℕ) → IsIdentifier name → IsNameInForm name
+identifier_in_form [] identifier = absurd (false≢true identifier.starts)
+identifier_in_form (b ∷ more) identifier = (no_digit-start b identifier.starts, word_bytes (b ∷ more) identifier.bytes)
+
+string_in_form : (name : List ℕ) → AreWordBytes name → IsStringInForm name
 string_in_form name h = every (λ b. is_word_byte b ≡ true) (λ b. b < 256) word_byte_small name h
 
 abbrev are_small : List ℕ → Bool
@@ -93,18 +102,18 @@ number_of_below name parameters most some few =
 sum_in_form : (count left right : ℕ) → count ≤ 32 → left < 32 → right < 32 → IsFunctionInForm (sum_function count left right)
 sum_in_form count left right few l r =
     let parameters = made IsParameterInForm object_parameter 32 (λ j h. omega arith) 0 count (omega arith) in
-    ((omega arith, omega arith, parameters), (tt, (omega arith, tt)), search arith)
+    ((omega arith, omega arith, parameters), (tt, (omega arith, tt)), search arith, tt)
 
-wrapper_in_form : (name : List ℕ) (count : ℕ) → IsNameInForm name → count ≤ 32 → IsFunctionInForm (wrapper_function name count)
+wrapper_in_form : (name : List ℕ) (count : ℕ) → AreWordBytes name → count ≤ 32 → IsFunctionInForm (wrapper_function name count)
 wrapper_in_form name count h few =
     let text = arity_in_form name count (string_in_form name h) (omega arith) in
     let arguments = made IsValueInForm value.Argument 32 (λ j h. omega arith) 0 count (omega arith) in
     let test : IsLineInForm (line.Statement (stmt.GotoIf (value.Variable variable.ArgumentCount) comparison.NotEqual (value.Int count) 0)) = (tt, omega arith, omega arith) in
     let error : IsLineInForm (wrong_count name count) = (tt, (tt, (text, tt))) in
-    ((omega arith, omega arith), (tt, tt), (test, ((tt, (omega arith, omega arith), arguments), (tt, (omega arith, (error, (tt, tt)))))))
+    ((omega arith, omega arith), (tt, tt), (test, ((tt, (omega arith, omega arith), arguments), (tt, (omega arith, (error, (tt, tt)))))), tt)
 
 initialiser_in_form : (name : List ℕ) → IsNameInForm name → IsFunctionInForm (initialiser_function name)
-initialiser_in_form name h = (h, (tt, (omega arith, (omega arith, tt))), search arith)
+initialiser_in_form name h = (h, (tt, (omega arith, (omega arith, tt))), search arith, tt)
 
 header_in_form : (count : ℕ) → AllByRecursion IsItemInForm (header_items count)
 unfolding IsItemInForm
@@ -114,17 +123,17 @@ module_in_form : (name : List ℕ) (thin : ThinFunction) → IsNameInForm name �
 unfolding IsItemInForm
 module_in_form name thin h is_thin =
     let count = length thin.parameters in
-    let own = name_in_form thin.name is_thin.name.bytes in
+    let own = word_bytes thin.name is_thin.name.bytes in
     let left = number_of_below thin.left thin.parameters 32 (omega arith) is_thin.few in
     let right = number_of_below thin.right thin.parameters 32 (omega arith) is_thin.few in
     let sum = sum_in_form count (number_of thin.left thin.parameters) (number_of thin.right thin.parameters) is_thin.few left right in
     let wrapper = wrapper_in_form thin.name count own is_thin.few in
     let row : IsMethodInForm (record { name = thin.name; «module» = 0; index = 0 }) = (string_in_form thin.name own, omega arith, omega arith) in
     let initialiser = initialiser_in_form name h in
-    (tt, (tt, (tt, (tt, (tt, (sum, (wrapper, ((row, tt), (string_in_form name h, (initialiser, tt))))))))))
+    (tt, (tt, (tt, (tt, (tt, (sum, (wrapper, ((row, tt), (string_in_form name (name_words name h), (initialiser, tt))))))))))
 
 -- both files of a thin function are in form, where the module's name is an identifier
 pub thin_in_form : (name : List ℕ) (thin : ThinFunction) → IsIdentifier name → IsThin thin → AllByRecursion IsFileInForm (thin_files name thin)
 unfolding IsFileInForm
 thin_in_form name thin identifier is_thin =
-    (header_in_form (length thin.parameters), (module_in_form name thin (name_in_form name identifier.bytes) is_thin, tt))
+    (header_in_form (length thin.parameters), (module_in_form name thin (identifier_in_form name identifier) is_thin, tt))

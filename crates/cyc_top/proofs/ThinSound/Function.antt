@@ -2,6 +2,7 @@
 use Rattle.std.proofs.Common.{◌≡◌, ℕ, ◌≤◌, ◌<◌, Bool, true, false, not, List, [], ◌∷◌, length, map, Option, Some, None, refl, sym, ap, ◌∙◌, subst, arith}
 use Rattle.std.proofs.lemmas.Bool.{eqb-true}
 use Rattle.std.specs.Prelude.{ℤ, nat_eq, pos, if◌then◌else◌}
+use Rattle.std.specs.Str.{bytes_eq}
 use Rattle.c_mach.specs.declared.space.BinaryOp.TheVariants as binary
 use Rattle.c_mach.specs.declared.space.Exception.TheVariants as exception
 use Rattle.c_mach.specs.declared.space.Obj.{Obj}
@@ -33,7 +34,7 @@ use Rattle.c_mach.specs.declared.state.Entered.TheVariants as entered
 use Rattle.c_mach.specs.declared.state.Doing.{Doing}
 use Rattle.c_mach.specs.declared.state.Doing.TheVariants as doing
 use Rattle.c_mach.specs.declared.state.Course.TheVariants as course
-use Rattle.c_mach.specs.Objects.{same_bytes, same_obj, NewResult, Gave, Raises, new_result, sure_result}
+use Rattle.c_mach.specs.Objects.{same_obj, NewResult, Gave, Raises, new_result, sure_result}
 use Rattle.c_mach.specs.World.{World, first_world, say}
 use Rattle.c_mach.specs.State.{Frame, CState, has, held, lookup}
 use Rattle.c_mach.specs.Reads.{cell_reading, one_more_reading, some_reading, frame_of, wrapper_of, entered_in}
@@ -194,7 +195,7 @@ module _ (name : List ℕ) (thin : ThinFunction) (r : ReadyModule) (n : ℕ) (as
       let run : Outcome Obj = raising await exception.TypeError (arity_text thin.name count) (sees w) b in
       let error_at = λ (x : Obj) (v : World). raised_at r v (f3 ∷ fs) x in
       let joint = worlds setting error_at in
-      let delivered = λ (a : Answer) (v : World). deliver row.ErrSetString None a (live r v (asking f3 fail_op row.ErrSetString None ∷ fs)) (asking f3 fail_op row.ErrSetString None) fs in
+      let delivered = λ (a : Answer) (v : World). deliver row.ErrSetString None a (live r v fs) (asking f3 fail_op row.ErrSetString None) fs in
       let nowhere = λ (o : Obj) (v : World). live r v fs in
       let asked = asks w3 f3 fs fail_op row.ErrSetString None b error_at le in
       let inner = then_follows pace joint delivered any_value nowhere no_value c3 b 0 0 0 (await fail_op (sees w3) b) raise_it (omega arith) asked (λ a v left u le2. (0, omega arith, omega arith, v, refl, here pace (error_at (sure_result a) v))) in
@@ -247,15 +248,15 @@ module _ (name : List ℕ) (thin : ThinFunction) (r : ReadyModule) (n : ℕ) (as
     asker = asking (calling after_sum value.Null value.Null []) sum_op (row.Number binary.Add) to_temporary
 
     abbrev sum_at : Obj → World → CState
-    sum_at o v = deliver_new (Gave o) to_temporary (live r v (asker ∷ waiting)) asker waiting
+    sum_at o v = deliver_new (Gave o) to_temporary (live r v waiting) asker waiting
 
     abbrev fail_at : Obj → World → CState
-    fail_at e v = deliver_new (Raises e) to_temporary (live r v (asker ∷ waiting)) asker waiting
+    fail_at e v = deliver_new (Raises e) to_temporary (live r v waiting) asker waiting
 
     abbrev joint : Joint World
     joint = worlds setting fail_at
 
-    given : (a : NewResult) (v : World) (b : ℕ) → Follows pace joint sum_at any_value (deliver_new a to_temporary (live r v (asker ∷ waiting)) asker waiting) b 0 (give a (sees v) b)
+    given : (a : NewResult) (v : World) (b : ℕ) → Follows pace joint sum_at any_value (deliver_new a to_temporary (live r v waiting) asker waiting) b 0 (give a (sees v) b)
     given (Gave o) v b = (0, omega arith, omega arith, v, refl, tt, here pace (sum_at o v))
     given (Raises e) v b = (0, omega arith, omega arith, v, refl, here pace (fail_at e v))
 
@@ -272,7 +273,7 @@ module _ (name : List ℕ) (thin : ThinFunction) (r : ReadyModule) (n : ℕ) (as
         let held_both = and_true (held c f0 x) _ (held_lent c f0 x left.lent) (and_true (held c f0 y) true (held_lent c f0 y right.lent) refl) in
         let m : move files c ≡ Went c2 = ap (λ o. asks_with (one_more_reading o (one_more_reading second (Some [])))) left.reads ∙ ap (λ o. asks_with (one_more_reading (some_reading kind.PyObject (value.Object x)) (one_more_reading o (Some [])))) right.reads ∙ api_asks c f0 waiting to_temporary (row.Number binary.Add) readings sum_op refl refl refl refl refl refl refl held_both in
         let asked = asks v2 f0 waiting sum_op (row.Number binary.Add) to_temporary b fail_at le in
-        let delivered = λ (a : Answer) (w : World). deliver (row.Number binary.Add) to_temporary a (live r w (asker ∷ waiting)) asker waiting in
+        let delivered = λ (a : Answer) (w : World). deliver (row.Number binary.Add) to_temporary a (live r w waiting) asker waiting in
         let answered = then_follows pace joint delivered any_value sum_at any_value c2 b 0 0 0 (await sum_op (sees v2) b) give_new (omega arith) asked (λ a w b2 u le2. given (new_result a) w b2) in
         moved_on pace joint sum_at any_value c c2 b 0 (operate await sum_op (sees v) b) m answered
 
@@ -363,7 +364,7 @@ module _ (name : List ℕ) (thin : ThinFunction) (r : ReadyModule) (n : ℕ) (as
       let c3 = inside left right w in
       let m1 : move files c1 ≡ Went c2 = tests small w true e in
       let reads = arguments_read files c2 f3 args count len (λ j. refl) in
-      let m2 : move files c2 ≡ Went c3 = ap (λ (vs : Option (List Reading)). need_some vs fault.Stuck (call files c2 f3 fs (Some variable.Returned) (function.Plain 0 0) ks)) reads ∙ call_enters files c2 f3 fs (Some variable.Returned) (function.Plain 0 0) ks args 1 (sum_function count (number_of thin.left thin.parameters) (number_of thin.right thin.parameters)) refl (kinds-are count args len) refl (no_variable count) (no_loan count (object_readings args)) (all_lent c2 f3 args (λ o h. h)) in
+      let m2 : move files c2 ≡ Went c3 = ap (λ (vs : Option (List Reading)). need_some vs fault.Stuck (call files c2 f3 fs (Some variable.Returned) (function.Plain 0 0) ks)) reads ∙ call_enters files c2 f3 fs (Some variable.Returned) (function.Plain 0 0) ks args 1 (sum_function count (number_of thin.left thin.parameters) (number_of thin.right thin.parameters)) refl (kinds-are count args len) refl (no_variable count (object_readings args)) (no_loan count (object_readings args) []) (all_lent c2 f3 args (λ o h. h)) in
       let run = leave (then_do (suite await locals body (sees w) b) results) in
       moved_on pace outer left_at any_value c1 c2 b 4 run m1 (moved_on pace outer left_at any_value c2 c3 b 4 run m2 (left_follows left right w b le))
 
@@ -381,7 +382,7 @@ function_follows name thin is_thin r n asks callee args w fs raised b le =
 -- what a callee names is the thin function on both sides, or nothing on both
 pub all_realised : (name : List ℕ) (thin : ThinFunction) → IsThin thin → (r : ReadyModule) → AllRealised (thin_setting name thin r)
 all_realised name thin is_thin r (callee.Method p) = tt
-all_realised name thin is_thin r (callee.Function p) = by_module (same_bytes name p.module)
+all_realised name thin is_thin r (callee.Function p) = by_module (bytes_eq name p.module)
   where
     setting : Setting
     setting = thin_setting name thin r
@@ -390,6 +391,6 @@ all_realised name thin is_thin r (callee.Function p) = by_module (same_bytes nam
     by_name true = (4, omega arith, function_follows name thin is_thin r)
     by_name false = tt
 
-    by_module : (q : Bool) → Realised setting (if q then function_in (thin_function thin ∷ []) p.name else None) (entered_in (thin_files name thin) (ready_base r) p.name (if q then Some 1 else None))
-    by_module true = by_name (same_bytes thin.name p.name)
+    by_module : (q : Bool) → Realised setting (if q then function_in (thin_function thin ∷ []) p.name else None) (entered_in (thin_files name thin) (ready_base r).places p.name (if q then Some 1 else None))
+    by_module true = by_name (bytes_eq thin.name p.name)
     by_module false = tt

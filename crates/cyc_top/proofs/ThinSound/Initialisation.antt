@@ -1,6 +1,7 @@
 -- The initialisation of a thin file's module, and the whole run.
 use Rattle.std.proofs.Common.{◌≡◌, ℕ, zero, suc, ◌≤◌, Bool, true, false, ◌||◌, List, [], ◌∷◌, Option, Some, None, refl, ap, subst, arith}
 use Rattle.std.specs.Prelude.{if◌then◌else◌, is_some, pos, codes}
+use Rattle.std.specs.Str.{bytes_eq}
 use Rattle.c_mach.specs.declared.space.Obj.{Obj}
 use Rattle.c_mach.specs.declared.space.Callee.TheVariants as callee
 use Rattle.c_mach.specs.declared.space.Entry.{Entry}
@@ -23,7 +24,7 @@ use Rattle.c_mach.specs.declared.state.Spot.{Spot}
 use Rattle.c_mach.specs.declared.state.Entered.TheVariants as entered
 use Rattle.c_mach.specs.declared.state.Doing.TheVariants as doing
 use Rattle.c_mach.specs.declared.state.Course.TheVariants as course
-use Rattle.c_mach.specs.Objects.{same_bytes, same_obj, NewResult, Gave, Raises, new_result, sure_result}
+use Rattle.c_mach.specs.Objects.{same_obj, NewResult, Gave, Raises, new_result, sure_result}
 use Rattle.c_mach.specs.World.{World, first_world, say}
 use Rattle.c_mach.specs.State.{put_to, Frame, CState, lose, held, linked}
 use Rattle.c_mach.specs.Reads.{frame_of, entered_in}
@@ -110,9 +111,9 @@ module _ (name : List ℕ) (thin : ThinFunction) where
   -- before the module is ready nothing is called
   none_realised : (m d b : Option Obj) → AllRealised (init_setting m d b)
   none_realised m d b (callee.Method p) = tt
-  none_realised m d b (callee.Function p) = by_module (same_bytes name p.module)
+  none_realised m d b (callee.Function p) = by_module (bytes_eq name p.module)
     where
-      by_module : (q : Bool) → Realised (init_setting m d b) None (entered_in (thin_files name thin) (begun_with (unready m d b) [] (first_world []) []) p.name (if q then Some 1 else None))
+      by_module : (q : Bool) → Realised (init_setting m d b) None (entered_in (thin_files name thin) (begun_with (unready m d b) [] (first_world []) []).places p.name (if q then Some 1 else None))
       by_module true = tt
       by_module false = tt
 
@@ -147,13 +148,13 @@ module _ (name : List ℕ) (thin : ThinFunction) where
     abbrev new_at : Obj → Begun → CState
     new_at x j = begun_with (unready m d b) [] j.world (frame rest value.Null (value.Object x) second (x ∷ []) ∷ [])
 
-    given_new : (a : NewResult) (v : World) (u : ℕ) → FollowsInit new_at (deliver_new a (to_temporary 0) (begun_with (unready m d b) [] v (asker ∷ [])) asker []) u (give a (sees v) u)
+    given_new : (a : NewResult) (v : World) (u : ℕ) → FollowsInit new_at (deliver_new a (to_temporary 0) (begun_with (unready m d b) [] v []) asker []) u (give a (sees v) u)
     given_new (Gave x) v u =
-        let c = deliver_new (Gave x) (to_temporary 0) (begun_with (unready m d b) [] v (asker ∷ [])) asker [] in
+        let c = deliver_new (Gave x) (to_temporary 0) (begun_with (unready m d b) [] v []) asker [] in
         let j = begun m d b first second v in
         (5, omega arith, omega arith, j, refl, tt, one pace c (new_at x j) refl)
     given_new (Raises e) v u =
-        let c = deliver_new (Raises e) (to_temporary 0) (begun_with (unready m d b) [] v (asker ∷ [])) asker [] in
+        let c = deliver_new (Raises e) (to_temporary 0) (begun_with (unready m d b) [] v []) asker [] in
         let j = begun m d b value.Null second v in
         (5, omega arith, omega arith, j, refl, one pace c (fail_at e j) refl)
 
@@ -164,9 +165,9 @@ module _ (name : List ℕ) (thin : ThinFunction) where
         let raised = λ (e : Obj) (v : World). fail_at e (begun m d b value.Null second v) in
         let inner = worlds (init_setting m d b) raised in
         let asked = asks_follow (init_setting m d b) (none_realised m d b) n w2 (frame (leave_if_null 0 ∷ rest) value.Null first second []) [] o r (to_temporary 0) u raised le in
-        let asked2 = subst (λ (h : How). Follows pace inner (λ a v. deliver_by h (to_temporary 0) a (begun_with (unready m d b) [] v (asker ∷ [])) asker []) any_value c2 u 0 (await_within (thin_set name thin) n o (sees w2) u)) is_new asked in
+        let asked2 = subst (λ (h : How). Follows pace inner (λ a v. deliver_by h (to_temporary 0) a (begun_with (unready m d b) [] v []) asker []) any_value c2 u 0 (await_within (thin_set name thin) n o (sees w2) u)) is_new asked in
         moved_on pace joint new_at any_value c c2 u 0 (operate (await_within (thin_set name thin) n) o (sees w) u) mv
-        (then_into pace inner (λ a v. deliver_by NewReference (to_temporary 0) a (begun_with (unready m d b) [] v (asker ∷ [])) asker []) any_value joint new_at any_value c2 u 0 0 0 (await_within (thin_set name thin) n o (sees w2) u) give_new (omega arith) asked2
+        (then_into pace inner (λ a v. deliver_by NewReference (to_temporary 0) a (begun_with (unready m d b) [] v []) asker []) any_value joint new_at any_value c2 u 0 0 0 (await_within (thin_set name thin) n o (sees w2) u) give_new (omega arith) asked2
         (λ a v left k le2. given_new (new_result a) v left)
         (λ e v left le2. (0, omega arith, omega arith, begun m d b value.Null second v, refl, here pace (raised e v))))
 
@@ -185,7 +186,7 @@ module _ (name : List ℕ) (thin : ThinFunction) where
         let inner = worlds (init_setting m d b) raised in
         let asked = asks_follow (init_setting m d b) (none_realised m d b) n w2 f [] o row.ModuleGetDict x u raised le in
         moved_on pace joint lent_at any_value c c2 u 0 (operate_sure (await_within (thin_set name thin) n) o (sees w) u) mv
-        (then_into pace inner (λ a v. deliver row.ModuleGetDict x a (begun_with (unready m d b) [] v (top ∷ [])) top []) any_value joint lent_at any_value c2 u 0 0 0 (await_within (thin_set name thin) n o (sees w2) u) give_sure (omega arith) asked
+        (then_into pace inner (λ a v. deliver row.ModuleGetDict x a (begun_with (unready m d b) [] v []) top []) any_value joint lent_at any_value c2 u 0 0 0 (await_within (thin_set name thin) n o (sees w2) u) give_sure (omega arith) asked
         (λ a v left k le2. (0, omega arith, omega arith, begun m d b value.Null value.Null v, refl, tt, here pace (lent_at (sure_result a) (begun m d b value.Null value.Null v))))
         (λ e v left le2. (0, omega arith, omega arith, begun m d b value.Null value.Null v, refl, here pace (raised e v))))
 

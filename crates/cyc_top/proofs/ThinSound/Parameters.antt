@@ -1,5 +1,5 @@
 -- The parameters of a thin function, in the sources and in the C.
-use Rattle.std.proofs.Common.{◌≡◌, ℕ, zero, suc, ◌+◌, ◌<◌, Bool, true, false, not, ◌&&◌, List, [], ◌∷◌, length, map, get_or, Some, None, Contains, cond, refl, sym, ap, ◌∙◌, arith}
+use Rattle.std.proofs.Common.{◌≡◌, ℕ, zero, suc, ◌+◌, ◌<◌, Bool, true, false, not, List, [], ◌∷◌, length, map, get_or, Some, None, Contains, cond, refl, sym, ap, ◌∙◌, arith}
 use Rattle.std.specs.Prelude.{nat_eq, nat_lt, unwrap_or, if◌then◌else◌}
 use Rattle.std.specs.List.{position_or_len, range_with_len}
 use Rattle.std.specs.Str.{bytes_eq}
@@ -14,20 +14,13 @@ use Rattle.c_mach.specs.declared.state.Kind.TheVariants as kind
 use Rattle.c_mach.specs.declared.state.Value.TheVariants as value
 use Rattle.c_mach.specs.declared.state.Reading.{Reading}
 use Rattle.c_mach.specs.declared.state.Cell.{Cell}
-use Rattle.c_mach.specs.Objects.{same_bytes, same_obj}
+use Rattle.c_mach.specs.Objects.{same_obj}
 use Rattle.c_mach.specs.State.{lookup, has, Frame, CState}
-use Rattle.c_mach.specs.Reads.{some_reading, cell_reading, object_at, read, read_each, one_more_reading, any_module_variable, lends_each, parameter_kinds_of, parameter_names_of, parameter_cells}
+use Rattle.c_mach.specs.Reads.{some_reading, cell_reading, object_at, read, read_each, one_more_reading, any_module_variable, loans_after, parameter_kinds_of, plain_cells}
 use Rattle.cy_mean.specs.Meaning.{local_of, bind_all}
 use Rattle.cy_mean.proofs.Same.{nat_same, obj_same, or_left, or_right}
 use Rattle.cy_mean.proofs.Statements.{object_readings, object_values, object_kinds}
 use Rattle.cyc_top.specs.ThinC.{numbers_below, object_parameter, number_of}
-
--- the two tests of names are one
-pub bytes-test : (x y : List ℕ) → same_bytes x y ≡ bytes_eq x y
-bytes-test [] [] = refl
-bytes-test [] (b ∷ y) = refl
-bytes-test (a ∷ x) [] = refl
-bytes-test (a ∷ x) (b ∷ y) = ap (λ q. nat_eq a b && q) (bytes-test x y)
 
 numbers-differ : (i j : ℕ) → i < j → nat_eq i j ≡ false
 numbers-differ i j lt = by_test (nat_eq i j) refl
@@ -45,11 +38,11 @@ object_cells k (o ∷ os) =
 -- the cells that a thin function's frame has for its parameters
 abbrev pub cells_of : ℕ → List Obj → List Cell
 cells_of count args =
-    parameter_cells (parameter_names_of (map object_parameter (numbers_below count))) (parameter_kinds_of (map object_parameter (numbers_below count))) (object_values args)
+    plain_cells (map object_parameter (numbers_below count)) (object_values args)
 
 abbrev cells_from : ℕ → ℕ → List Obj → List Cell
 cells_from k n os =
-    parameter_cells (parameter_names_of (map object_parameter (range_with_len k n))) (parameter_kinds_of (map object_parameter (range_with_len k n))) (object_values os)
+    plain_cells (map object_parameter (range_with_len k n)) (object_values os)
 
 cells-from : (k : ℕ) (os : List Obj) → cells_from k (length os) os ≡ object_cells k os
 cells-from k [] = refl
@@ -108,7 +101,7 @@ place_at k (y ∷ ys) (o ∷ os) x el j lt e =
         record {
           object = o;
           below = omega (arith, at);
-          found = ap (λ q. if q then Some o else local_of (bind_all ys os) x) (bytes-test y x ∙ t);
+          found = ap (λ q. if q then Some o else local_of (bind_all ys os) x) t;
           stands = first_stands k (k + place_of (y ∷ ys) x) o (object_cells (k + 1) os) (omega (arith, at));
           lent = or_left (same_obj o o) (has os o) (obj_same o);
         }
@@ -119,7 +112,7 @@ place_at k (y ∷ ys) (o ∷ os) x el j lt e =
         record {
           object = r.object;
           below = omega (arith, at, r.below);
-          found = ap (λ q. if q then Some o else local_of (bind_all ys os) x) (bytes-test y x ∙ t) ∙ r.found;
+          found = ap (λ q. if q then Some o else local_of (bind_all ys os) x) t ∙ r.found;
           stands = later_stands k (k + place_of (y ∷ ys) x) o r.object (object_cells (k + 1) os) (omega (arith, at)) (ap (λ n. cell_reading (lookup (object_cells (k + 1) os) (variable.Parameter n))) shape ∙ r.stands);
           lent = or_right (same_obj o r.object) (has os r.object) r.lent;
         }
@@ -163,18 +156,19 @@ arguments_read files c f args count e at =
     ap (λ n. read_each files c f (map operand.Argument (range_with_len 0 n))) (sym e)
     ∙ arguments_from files c f args 0 args at (λ j. let z : 0 + j ≡ j = omega arith in ap (object_at args) z)
 
-no_variable_from : (k n : ℕ) → any_module_variable (map operand.Argument (range_with_len k n)) ≡ false
-no_variable_from k zero = refl
-no_variable_from k (suc n) = no_variable_from (k + 1) n
+no_variable_from : (k n : ℕ) (vs : List Reading) → any_module_variable (map operand.Argument (range_with_len k n)) vs ≡ false
+no_variable_from k zero vs = refl
+no_variable_from k (suc n) [] = refl
+no_variable_from k (suc n) (v ∷ vs) = no_variable_from (k + 1) n vs
 
 -- none of them is a module variable, and none makes a loan
-pub no_variable : (count : ℕ) → any_module_variable (map operand.Argument (numbers_below count)) ≡ false
-no_variable count = no_variable_from 0 count
+pub no_variable : (count : ℕ) (vs : List Reading) → any_module_variable (map operand.Argument (numbers_below count)) vs ≡ false
+no_variable count vs = no_variable_from 0 count vs
 
-no_loan_from : (k n : ℕ) (vs : List Reading) → lends_each (map operand.Argument (range_with_len k n)) vs ≡ []
-no_loan_from k zero vs = refl
-no_loan_from k (suc n) [] = refl
-no_loan_from k (suc n) (v ∷ vs) = no_loan_from (k + 1) n vs
+no_loan_from : (k n : ℕ) (vs : List Reading) (loans : List Obj) → loans_after (map operand.Argument (range_with_len k n)) vs loans ≡ loans
+no_loan_from k zero vs loans = refl
+no_loan_from k (suc n) [] loans = refl
+no_loan_from k (suc n) (v ∷ vs) loans = no_loan_from (k + 1) n vs loans
 
-pub no_loan : (count : ℕ) (vs : List Reading) → lends_each (map operand.Argument (numbers_below count)) vs ≡ []
-no_loan count vs = no_loan_from 0 count vs
+pub no_loan : (count : ℕ) (vs : List Reading) (loans : List Obj) → loans_after (map operand.Argument (numbers_below count)) vs loans ≡ loans
+no_loan count vs loans = no_loan_from 0 count vs loans
