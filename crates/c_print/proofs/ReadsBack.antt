@@ -2,46 +2,46 @@
 use Rattle.std.proofs.Common.{◌≡◌, ℕ, Bool, true, false, List, [], ◌∷◌, ◌++◌, refl, sym, ap, ◌∙◌, subst, append_assoc, append-nil, arith, decimal}
 use Rattle.std.specs.Prelude.{Option, Some, None, codes, ⊤}
 use Rattle.std.specs.List.{flat_map, AllByRecursion}
-use Rattle.c_mach.specs.CTokens.{CToken, Word, sign, word, Fresh, Text, Between, InWord, InQuotes, c_tokens, tokens_from}
-use Rattle.c_mach.specs.CReading.{c_items, c_reading, spelling, type_spelling, variable_spelling, place_name, function_name, row_name, exception_name, numbered_name, string_spelling, value_spelling, comparison_spelling, target_spelling, destination_spelling, listed_spelling, call_spelling, goto_spelling, label_spelling, statement_spelling, line_spelling, initial_spelling, declaration_spelling, parameter_spelling, void_or, plain_head_spelling, head_spelling, body_spelling, method_spelling, IsNumberInForm, IsVariableInForm, IsPlaceInForm, IsFunctionNameInForm, IsValueInForm, IsTargetInForm, IsDestinationInForm, IsStatementInForm, IsLineInForm, IsDeclarationInForm, IsParameterInForm, IsHeadInForm, IsFunctionInForm, IsMethodInForm, IsItemInForm, IsFileInForm, IsReading}
-use Rattle.c_mach.proofs.Items.{cut_spellings, read_spellings}
-use Rattle.c_mach.proofs.Unique.{operand_value, type_spelling_first, parameter_spelling_first, reading_unique}
-use Rattle.c_mach.proofs.Tokens.{Stops, StopsSign, stops_sign, begun, word_tokens, star_tokens, name_append, name_words, decimal_name, number_tokens, join_tokens, string_tokens}
+use Rattle.c_state.specs.CTokens.{CToken, Word, sign, word, Fresh, Text, Between, InWord, InQuotes, c_tokens, tokens_from}
+use Rattle.c_state.specs.CReading.{c_items, c_reading, spelling, type_spelling, variable_spelling, place_name, function_name, row_name, exception_name, numbered_name, string_spelling, value_spelling, comparison_spelling, target_spelling, destination_spelling, listed_spelling, call_spelling, goto_spelling, label_spelling, statement_spelling, line_spelling, initial_spelling, declaration_spelling, parameter_spelling, void_or, plain_head_spelling, head_spelling, body_spelling, method_spelling, IsNumberInForm, IsVariableInForm, IsPlaceInForm, IsFunctionNameInForm, IsValueInForm, IsTargetInForm, IsDestinationInForm, IsStatementInForm, IsLineInForm, IsDeclarationInForm, IsParameterInForm, IsHeadInForm, IsFunctionInForm, IsMethodInForm, IsItemInForm, IsFileInForm, IsReading}
+use Rattle.c_state.proofs.Items.{cut_spellings, read_spellings}
+use Rattle.c_state.proofs.Unique.{operand_value, type_spelling_first, parameter_spelling_first, reading_unique}
+use Rattle.c_state.proofs.Tokens.{Stops, StopsSign, stops_sign, begun, word_tokens, star_tokens, name_append, name_words, decimal_name, number_tokens, join_tokens, string_tokens}
 use Rattle.c_print.specs.CText.{fixed_text, listed, type_text, type_before, variable_text, place_text, numbered, function_text, row_text, exception_text, byte_text, string_text, value_text, comparison_text, target_text, destination_text, arguments_text, goto_text, statement_text, line_text, initial_text, declaration_text, parameter_text, or_void, head_text, body_text, method_text, item_text, file_text}
-use Rattle.c_mach.specs.declared.BinaryOp.TheVariants as op
-use Rattle.c_mach.specs.declared.Exception.{Exception}
-use Rattle.c_mach.specs.declared.Exception.TheVariants as exception
-use Rattle.c_mach.specs.declared.CType.{CType}
-use Rattle.c_mach.specs.declared.CType.TheVariants as type
-use Rattle.c_mach.specs.declared.Variable.{Variable}
-use Rattle.c_mach.specs.declared.Variable.TheVariants as variable
-use Rattle.c_mach.specs.declared.Place.{Place}
-use Rattle.c_mach.specs.declared.Place.TheVariants as place
-use Rattle.c_mach.specs.declared.FunctionName.{FunctionName}
-use Rattle.c_mach.specs.declared.FunctionName.TheVariants as function
-use Rattle.c_mach.specs.declared.ApiRow.{ApiRow}
-use Rattle.c_mach.specs.declared.ApiRow.TheVariants as row
-use Rattle.c_mach.specs.declared.CValue.{CValue}
-use Rattle.c_mach.specs.declared.CValue.TheVariants as value
-use Rattle.c_mach.specs.declared.Comparison.{Comparison}
-use Rattle.c_mach.specs.declared.Comparison.TheVariants as comparison
-use Rattle.c_mach.specs.declared.Target.{Target}
-use Rattle.c_mach.specs.declared.Target.TheVariants as target
-use Rattle.c_mach.specs.declared.CStmt.{CStmt}
-use Rattle.c_mach.specs.declared.CStmt.TheVariants as stmt
-use Rattle.c_mach.specs.declared.Line.{Line}
-use Rattle.c_mach.specs.declared.Line.TheVariants as line
-use Rattle.c_mach.specs.declared.InitialValue.{InitialValue}
-use Rattle.c_mach.specs.declared.InitialValue.TheVariants as initial
-use Rattle.c_mach.specs.declared.Declaration.{Declaration}
-use Rattle.c_mach.specs.declared.Parameter.{Parameter}
-use Rattle.c_mach.specs.declared.CHead.{CHead}
-use Rattle.c_mach.specs.declared.CHead.TheVariants as head
-use Rattle.c_mach.specs.declared.CFunction.{CFunction}
-use Rattle.c_mach.specs.declared.MethodRow.{MethodRow}
-use Rattle.c_mach.specs.declared.CItem.{CItem}
-use Rattle.c_mach.specs.declared.CItem.TheVariants as item
-use Rattle.c_mach.specs.declared.CFile.{CFile}
+use Rattle.c_state.specs.declared.BinaryOp.TheVariants as op
+use Rattle.c_state.specs.declared.Exception.{Exception}
+use Rattle.c_state.specs.declared.Exception.TheVariants as exception
+use Rattle.c_state.specs.declared.CType.{CType}
+use Rattle.c_state.specs.declared.CType.TheVariants as type
+use Rattle.c_state.specs.declared.Variable.{Variable}
+use Rattle.c_state.specs.declared.Variable.TheVariants as variable
+use Rattle.c_state.specs.declared.Place.{Place}
+use Rattle.c_state.specs.declared.Place.TheVariants as place
+use Rattle.c_state.specs.declared.FunctionName.{FunctionName}
+use Rattle.c_state.specs.declared.FunctionName.TheVariants as function
+use Rattle.c_state.specs.declared.ApiRow.{ApiRow}
+use Rattle.c_state.specs.declared.ApiRow.TheVariants as row
+use Rattle.c_state.specs.declared.CValue.{CValue}
+use Rattle.c_state.specs.declared.CValue.TheVariants as value
+use Rattle.c_state.specs.declared.Comparison.{Comparison}
+use Rattle.c_state.specs.declared.Comparison.TheVariants as comparison
+use Rattle.c_state.specs.declared.Target.{Target}
+use Rattle.c_state.specs.declared.Target.TheVariants as target
+use Rattle.c_state.specs.declared.CStmt.{CStmt}
+use Rattle.c_state.specs.declared.CStmt.TheVariants as stmt
+use Rattle.c_state.specs.declared.Line.{Line}
+use Rattle.c_state.specs.declared.Line.TheVariants as line
+use Rattle.c_state.specs.declared.InitialValue.{InitialValue}
+use Rattle.c_state.specs.declared.InitialValue.TheVariants as initial
+use Rattle.c_state.specs.declared.Declaration.{Declaration}
+use Rattle.c_state.specs.declared.Parameter.{Parameter}
+use Rattle.c_state.specs.declared.CHead.{CHead}
+use Rattle.c_state.specs.declared.CHead.TheVariants as head
+use Rattle.c_state.specs.declared.CFunction.{CFunction}
+use Rattle.c_state.specs.declared.MethodRow.{MethodRow}
+use Rattle.c_state.specs.declared.CItem.{CItem}
+use Rattle.c_state.specs.declared.CItem.TheVariants as item
+use Rattle.c_state.specs.declared.CFile.{CFile}
 use Rattle.c_print.specs.declared.Fixed.TheVariants as fixed
 
 -- ---- names

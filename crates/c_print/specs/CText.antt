@@ -1,40 +1,40 @@
 -- The layout of the written C: the text of each tree. The project's own layout of C (ISO/IEC 9899:2011).
 use Rattle.std.specs.Prelude.{ℕ, ◌+◌, ◌/◌, ◌%◌, ◌||◌, List, [], ◌∷◌, ◌++◌, Option, Some, None, nat_lt, nat_eq, if◌then◌else◌, codes, decimal}
 use Rattle.std.specs.List.{flat_map}
-use Rattle.c_mach.specs.declared.BinaryOp.TheVariants as op
-use Rattle.c_mach.specs.declared.Exception.{Exception}
-use Rattle.c_mach.specs.declared.Exception.TheVariants as exception
-use Rattle.c_mach.specs.declared.CType.{CType}
-use Rattle.c_mach.specs.declared.CType.TheVariants as type
-use Rattle.c_mach.specs.declared.Variable.{Variable}
-use Rattle.c_mach.specs.declared.Variable.TheVariants as variable
-use Rattle.c_mach.specs.declared.Place.{Place}
-use Rattle.c_mach.specs.declared.Place.TheVariants as place
-use Rattle.c_mach.specs.declared.FunctionName.{FunctionName}
-use Rattle.c_mach.specs.declared.FunctionName.TheVariants as function
-use Rattle.c_mach.specs.declared.ApiRow.{ApiRow}
-use Rattle.c_mach.specs.declared.ApiRow.TheVariants as row
-use Rattle.c_mach.specs.declared.CValue.{CValue}
-use Rattle.c_mach.specs.declared.CValue.TheVariants as value
-use Rattle.c_mach.specs.declared.Comparison.{Comparison}
-use Rattle.c_mach.specs.declared.Comparison.TheVariants as comparison
-use Rattle.c_mach.specs.declared.Target.{Target}
-use Rattle.c_mach.specs.declared.Target.TheVariants as target
-use Rattle.c_mach.specs.declared.CStmt.{CStmt}
-use Rattle.c_mach.specs.declared.CStmt.TheVariants as stmt
-use Rattle.c_mach.specs.declared.Line.{Line}
-use Rattle.c_mach.specs.declared.Line.TheVariants as line
-use Rattle.c_mach.specs.declared.InitialValue.{InitialValue}
-use Rattle.c_mach.specs.declared.InitialValue.TheVariants as initial
-use Rattle.c_mach.specs.declared.Declaration.{Declaration}
-use Rattle.c_mach.specs.declared.Parameter.{Parameter}
-use Rattle.c_mach.specs.declared.CHead.{CHead}
-use Rattle.c_mach.specs.declared.CHead.TheVariants as head
-use Rattle.c_mach.specs.declared.CFunction.{CFunction}
-use Rattle.c_mach.specs.declared.MethodRow.{MethodRow}
-use Rattle.c_mach.specs.declared.CItem.{CItem}
-use Rattle.c_mach.specs.declared.CItem.TheVariants as item
-use Rattle.c_mach.specs.declared.CFile.{CFile}
+use Rattle.c_state.specs.declared.BinaryOp.TheVariants as op
+use Rattle.c_state.specs.declared.Exception.{Exception}
+use Rattle.c_state.specs.declared.Exception.TheVariants as exception
+use Rattle.c_state.specs.declared.CType.{CType}
+use Rattle.c_state.specs.declared.CType.TheVariants as type
+use Rattle.c_state.specs.declared.Variable.{Variable}
+use Rattle.c_state.specs.declared.Variable.TheVariants as variable
+use Rattle.c_state.specs.declared.Place.{Place}
+use Rattle.c_state.specs.declared.Place.TheVariants as place
+use Rattle.c_state.specs.declared.FunctionName.{FunctionName}
+use Rattle.c_state.specs.declared.FunctionName.TheVariants as function
+use Rattle.c_state.specs.declared.ApiRow.{ApiRow}
+use Rattle.c_state.specs.declared.ApiRow.TheVariants as row
+use Rattle.c_state.specs.declared.CValue.{CValue}
+use Rattle.c_state.specs.declared.CValue.TheVariants as value
+use Rattle.c_state.specs.declared.Comparison.{Comparison}
+use Rattle.c_state.specs.declared.Comparison.TheVariants as comparison
+use Rattle.c_state.specs.declared.Target.{Target}
+use Rattle.c_state.specs.declared.Target.TheVariants as target
+use Rattle.c_state.specs.declared.CStmt.{CStmt}
+use Rattle.c_state.specs.declared.CStmt.TheVariants as stmt
+use Rattle.c_state.specs.declared.Line.{Line}
+use Rattle.c_state.specs.declared.Line.TheVariants as line
+use Rattle.c_state.specs.declared.InitialValue.{InitialValue}
+use Rattle.c_state.specs.declared.InitialValue.TheVariants as initial
+use Rattle.c_state.specs.declared.Declaration.{Declaration}
+use Rattle.c_state.specs.declared.Parameter.{Parameter}
+use Rattle.c_state.specs.declared.CHead.{CHead}
+use Rattle.c_state.specs.declared.CHead.TheVariants as head
+use Rattle.c_state.specs.declared.CFunction.{CFunction}
+use Rattle.c_state.specs.declared.MethodRow.{MethodRow}
+use Rattle.c_state.specs.declared.CItem.{CItem}
+use Rattle.c_state.specs.declared.CItem.TheVariants as item
+use Rattle.c_state.specs.declared.CFile.{CFile}
 use Rattle.c_print.specs.declared.Fixed.{Fixed}
 use Rattle.c_print.specs.declared.Fixed.TheVariants as fixed
 

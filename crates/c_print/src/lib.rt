@@ -3,11 +3,11 @@
 
 ghost use Rattle.std.specs.Prelude.{◌≡◌, ◌++◌, codes, decimal, IfOk, OnOk, true, Bool, List};
 ghost use Rattle.std.specs.List.{flat_map};
-ghost use Rattle.c_mach.specs.CReading.{IsFileInForm, c_reading};
-ghost use Rattle.c_mach.specs.declared.CItem.{CItem};
+ghost use Rattle.c_state.specs.CReading.{IsFileInForm, c_reading};
+ghost use Rattle.c_state.specs.declared.CItem.{CItem};
 ghost use Rattle.c_print.specs.CText.{fixed_text, type_text, type_before, variable_text, place_text, numbered, function_text, row_text, exception_text, byte_text, string_text, value_text, comparison_text, target_text, destination_text, listed, arguments_text, goto_text, statement_text, line_text, initial_text, declaration_text, parameter_text, or_void, head_text, body_text, method_text, item_text, file_text};
 
-use c_mach::{
+use c_state::{
     ApiRow, BinaryOp, CFile, CFunction, CHead, CItem, CStmt, CType, CValue, Comparison,
     Declaration, Exception, FunctionName, InitialValue, Line, MethodRow, Parameter, Place, Target,
     Variable,

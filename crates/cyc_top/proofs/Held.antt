@@ -1,8 +1,8 @@
 -- What a build leaves reads back.
 use Rattle.std.proofs.Common.{◌≡◌, ℕ, List, length, Option, Some, None, true, refl, sym, subst}
 use Rattle.std.specs.Prelude.{IsSomeAnd}
-use Rattle.c_mach.specs.CReading.{c_reading}
-use Rattle.c_mach.specs.declared.CFile.{CFile}
+use Rattle.c_state.specs.CReading.{c_reading}
+use Rattle.c_state.specs.declared.CFile.{CFile}
 use Rattle.cy_io.specs.Told.{FileMap, BothTold}
 use Rattle.cy_mean.specs.declared.ThinFunction.{ThinFunction}
 use Rattle.cyc_top.specs.Thin.{IsThin}

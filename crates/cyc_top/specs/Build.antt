@@ -1,7 +1,7 @@
 -- What a build leaves among the files. The project's own.
 use Rattle.std.specs.Prelude.{◌≡◌, ◌≢◌, ◌⊎◌, ℕ, List, [], ◌∷◌, ◌++◌, length, codes, Option, Some, IfSome, IsSomeAnd, true}
-use Rattle.c_mach.specs.CReading.{c_reading}
-use Rattle.c_mach.specs.declared.CFile.{CFile}
+use Rattle.c_state.specs.CReading.{c_reading}
+use Rattle.c_state.specs.declared.CFile.{CFile}
 use Rattle.cy_io.specs.Told.{FileMap, BothTold, SameElsewhere, IsWritten}
 use Rattle.cy_mean.specs.declared.ThinFunction.{ThinFunction}
 use Rattle.cy_mean.specs.Source.{thin_set}

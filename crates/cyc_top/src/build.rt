@@ -1,5 +1,5 @@
 ghost use Rattle.std.specs.Prelude.{◌≡◌, ◌≢◌, ◌⊎◌, ◌^◌, ◌<◌, ◌≤◌, ◌+◌, ◌↔◌, ◌++◌, ℕ, List, length, codes, Some, None, IfSome, IfOk, IsSomeAnd, MatchOption, All};
-ghost use Rattle.c_mach.specs.CReading.{IsFileInForm};
+ghost use Rattle.c_state.specs.CReading.{IsFileInForm};
 ghost use Rattle.cy_io.specs.Counts.{Rose};
 ghost use Rattle.cy_io.specs.Told.{BothTold, FileMap};
 ghost use Rattle.cy_mean.specs.declared.ThinFunction.{ThinFunction};
@@ -15,7 +15,7 @@ use crate::command::Build;
 use crate::compile::compile;
 use crate::status::Status;
 use crate::thin_source::parse_thin;
-use c_mach::CFile;
+use c_state::CFile;
 use c_print::print;
 use cy_io::{Files, OutOfMemory, ReadAnswer, WriteAnswer};
 use std::alloc::Global;

@@ -2,7 +2,7 @@ ghost use Rattle.std.specs.Prelude.{◌≡◌, ◌≢◌, ℕ, ◌+◌, ◌<◌,
 ghost use Rattle.cy_mean.specs.declared.ThinFunction.{ThinFunction};
 ghost use Rattle.cyc_top.specs.Thin.{IsName, IsParameterName, IsParameterList, IsThin, is_name_byte, is_name_start, joined, number_words, reserved_words, thin_text};
 
-use c_mach::Bytes;
+use c_state::Bytes;
 use cy_io::OutOfMemory;
 use cy_mean::ThinFunction;
 use sqlite_items::Items;

@@ -1,6 +1,6 @@
 use Rattle.std.proofs.Common.{arith, ◌≡◌, true, sym, subst}
 use Rattle.std.proofs.lemmas.Grind.{common_steps}
-use Rattle.c_mach.specs.CReading.{c_reading}
+use Rattle.c_state.specs.CReading.{c_reading}
 use Rattle.c_print.specs.CText.{file_text}
 use Rattle.c_print.proofs.ReadsBack.{file_reads, file_reads_alone}
 use Rattle.c_print.proofs.print.Goals as goal

@@ -6,41 +6,41 @@ use Rattle.std.specs.Str.{bytes_eq}
 use Rattle.std.proofs.lemmas.Bool.{eq-eqb}
 use Rattle.std.proofs.lemmas.Fmt.{decimal_by_steps, decimal_injective, decimal_nonempty}
 use Rattle.std.proofs.lemmas.Bool.Decides.{nat_tests}
-use Rattle.c_mach.specs.CTokens.{CToken, Word, Str, Character, Sign, HeaderName, LineEnd, Other, sign, word, c_tokens}
-use Rattle.c_mach.specs.CReading.{spelling, type_spelling, lettered_name, numbered_name, variable_name, place_name, function_name, row_name, exception_name, quoted_byte, variable_spelling, value_spelling, comparison_spelling, target_spelling, listed_spelling, call_spelling, goto_spelling, statement_spelling, line_spelling, initial_spelling, declaration_spelling, parameter_spelling, void_or, plain_head_spelling, head_spelling, body_spelling, method_spelling, IsNumberInForm, IsVariableInForm, IsPlaceInForm, IsFunctionNameInForm, IsValueInForm, IsOperandInForm, IsTargetInForm, IsStatementInForm, IsLineInForm, IsDeclarationInForm, IsParameterInForm, IsHeadInForm, IsFunctionInForm, IsMethodInForm, IsItemInForm, IsReading}
-use Rattle.c_mach.specs.declared.space.BinaryOp.TheVariants as op
-use Rattle.c_mach.specs.declared.space.Exception.{Exception}
-use Rattle.c_mach.specs.declared.space.Exception.TheVariants as exception
-use Rattle.c_mach.specs.declared.tree.CType.{CType}
-use Rattle.c_mach.specs.declared.tree.CType.TheVariants as type
-use Rattle.c_mach.specs.declared.tree.Variable.{Variable}
-use Rattle.c_mach.specs.declared.tree.Variable.TheVariants as variable
-use Rattle.c_mach.specs.declared.tree.Place.{Place}
-use Rattle.c_mach.specs.declared.tree.Place.TheVariants as place
-use Rattle.c_mach.specs.declared.tree.FunctionName.{FunctionName}
-use Rattle.c_mach.specs.declared.tree.FunctionName.TheVariants as function
-use Rattle.c_mach.specs.declared.tree.ApiRow.{ApiRow}
-use Rattle.c_mach.specs.declared.tree.ApiRow.TheVariants as row
-use Rattle.c_mach.specs.declared.tree.CValue.{CValue}
-use Rattle.c_mach.specs.declared.tree.CValue.TheVariants as value
-use Rattle.c_mach.specs.declared.tree.Comparison.{Comparison}
-use Rattle.c_mach.specs.declared.tree.Comparison.TheVariants as comparison
-use Rattle.c_mach.specs.declared.tree.Target.{Target}
-use Rattle.c_mach.specs.declared.tree.Target.TheVariants as target
-use Rattle.c_mach.specs.declared.tree.CStmt.{CStmt}
-use Rattle.c_mach.specs.declared.tree.CStmt.TheVariants as stmt
-use Rattle.c_mach.specs.declared.tree.Line.{Line}
-use Rattle.c_mach.specs.declared.tree.Line.TheVariants as line
-use Rattle.c_mach.specs.declared.tree.InitialValue.{InitialValue}
-use Rattle.c_mach.specs.declared.tree.InitialValue.TheVariants as initial
-use Rattle.c_mach.specs.declared.tree.Declaration.{Declaration}
-use Rattle.c_mach.specs.declared.tree.Parameter.{Parameter}
-use Rattle.c_mach.specs.declared.tree.CHead.{CHead}
-use Rattle.c_mach.specs.declared.tree.CHead.TheVariants as head
-use Rattle.c_mach.specs.declared.tree.CFunction.{CFunction}
-use Rattle.c_mach.specs.declared.tree.MethodRow.{MethodRow}
-use Rattle.c_mach.specs.declared.tree.CItem.{CItem}
-use Rattle.c_mach.specs.declared.tree.CItem.TheVariants as item
+use Rattle.c_state.specs.CTokens.{CToken, Word, Str, Character, Sign, HeaderName, LineEnd, Other, sign, word, c_tokens}
+use Rattle.c_state.specs.CReading.{spelling, type_spelling, lettered_name, numbered_name, variable_name, place_name, function_name, row_name, exception_name, quoted_byte, variable_spelling, value_spelling, comparison_spelling, target_spelling, listed_spelling, call_spelling, goto_spelling, statement_spelling, line_spelling, initial_spelling, declaration_spelling, parameter_spelling, void_or, plain_head_spelling, head_spelling, body_spelling, method_spelling, IsNumberInForm, IsVariableInForm, IsPlaceInForm, IsFunctionNameInForm, IsValueInForm, IsOperandInForm, IsTargetInForm, IsStatementInForm, IsLineInForm, IsDeclarationInForm, IsParameterInForm, IsHeadInForm, IsFunctionInForm, IsMethodInForm, IsItemInForm, IsReading}
+use Rattle.c_state.specs.declared.space.BinaryOp.TheVariants as op
+use Rattle.c_state.specs.declared.space.Exception.{Exception}
+use Rattle.c_state.specs.declared.space.Exception.TheVariants as exception
+use Rattle.c_state.specs.declared.tree.CType.{CType}
+use Rattle.c_state.specs.declared.tree.CType.TheVariants as type
+use Rattle.c_state.specs.declared.tree.Variable.{Variable}
+use Rattle.c_state.specs.declared.tree.Variable.TheVariants as variable
+use Rattle.c_state.specs.declared.tree.Place.{Place}
+use Rattle.c_state.specs.declared.tree.Place.TheVariants as place
+use Rattle.c_state.specs.declared.tree.FunctionName.{FunctionName}
+use Rattle.c_state.specs.declared.tree.FunctionName.TheVariants as function
+use Rattle.c_state.specs.declared.tree.ApiRow.{ApiRow}
+use Rattle.c_state.specs.declared.tree.ApiRow.TheVariants as row
+use Rattle.c_state.specs.declared.tree.CValue.{CValue}
+use Rattle.c_state.specs.declared.tree.CValue.TheVariants as value
+use Rattle.c_state.specs.declared.tree.Comparison.{Comparison}
+use Rattle.c_state.specs.declared.tree.Comparison.TheVariants as comparison
+use Rattle.c_state.specs.declared.tree.Target.{Target}
+use Rattle.c_state.specs.declared.tree.Target.TheVariants as target
+use Rattle.c_state.specs.declared.tree.CStmt.{CStmt}
+use Rattle.c_state.specs.declared.tree.CStmt.TheVariants as stmt
+use Rattle.c_state.specs.declared.tree.Line.{Line}
+use Rattle.c_state.specs.declared.tree.Line.TheVariants as line
+use Rattle.c_state.specs.declared.tree.InitialValue.{InitialValue}
+use Rattle.c_state.specs.declared.tree.InitialValue.TheVariants as initial
+use Rattle.c_state.specs.declared.tree.Declaration.{Declaration}
+use Rattle.c_state.specs.declared.tree.Parameter.{Parameter}
+use Rattle.c_state.specs.declared.tree.CHead.{CHead}
+use Rattle.c_state.specs.declared.tree.CHead.TheVariants as head
+use Rattle.c_state.specs.declared.tree.CFunction.{CFunction}
+use Rattle.c_state.specs.declared.tree.MethodRow.{MethodRow}
+use Rattle.c_state.specs.declared.tree.CItem.{CItem}
+use Rattle.c_state.specs.declared.tree.CItem.TheVariants as item
 
 -- ---- tests that tell tokens apart
 

@@ -1,16 +1,16 @@
 -- Worked rows of the reading of C texts.
 use Rattle.std.proofs.Common.{◌≡◌, List, [], ◌∷◌, refl, sym, subst, true, false, codes}
 use Rattle.std.proofs.lemmas.Bool.{false≢true}
-use Rattle.c_mach.specs.CTokens.{CToken, Str, HeaderName, LineEnd, Other, word, sign, c_tokens}
-use Rattle.c_mach.specs.CReading.{c_items, c_reading, item_start, spelling, IsNameInForm, IsStatementInForm, LabelsStand, IsItemInForm}
-use Rattle.c_mach.specs.declared.tree.CItem.{CItem}
-use Rattle.c_mach.specs.declared.tree.CItem.TheVariants as item
-use Rattle.c_mach.specs.declared.tree.CStmt.TheVariants as stmt
-use Rattle.c_mach.specs.declared.tree.CType.TheVariants as type
-use Rattle.c_mach.specs.declared.tree.CValue.TheVariants as value
-use Rattle.c_mach.specs.declared.tree.Line.TheVariants as line
-use Rattle.c_mach.specs.declared.tree.Place.TheVariants as place
-use Rattle.c_mach.proofs.Items.{is_item_from, spelling_item}
+use Rattle.c_state.specs.CTokens.{CToken, Str, HeaderName, LineEnd, Other, word, sign, c_tokens}
+use Rattle.c_state.specs.CReading.{c_items, c_reading, item_start, spelling, IsNameInForm, IsStatementInForm, LabelsStand, IsItemInForm}
+use Rattle.c_state.specs.declared.tree.CItem.{CItem}
+use Rattle.c_state.specs.declared.tree.CItem.TheVariants as item
+use Rattle.c_state.specs.declared.tree.CStmt.TheVariants as stmt
+use Rattle.c_state.specs.declared.tree.CType.TheVariants as type
+use Rattle.c_state.specs.declared.tree.CValue.TheVariants as value
+use Rattle.c_state.specs.declared.tree.Line.TheVariants as line
+use Rattle.c_state.specs.declared.tree.Place.TheVariants as place
+use Rattle.c_state.proofs.Items.{is_item_from, spelling_item}
 
 small_text : c_tokens (codes "#include <Python.h>\nx = y==0 ? \"a\\\"b\" : L->p;\n")
     ≡ sign "#" ∷ word "include" ∷ HeaderName (codes "Python.h") ∷ LineEnd

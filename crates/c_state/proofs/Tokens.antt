@@ -5,8 +5,8 @@ use Rattle.std.specs.List.{flat_map}
 use Rattle.std.proofs.lemmas.Bool.{ne_eqb}
 use Rattle.std.proofs.lemmas.Bool.Decides.{nat_tests}
 use Rattle.std.proofs.lemmas.Fmt.{decimal_by_steps, decimal_nonempty}
-use Rattle.c_mach.specs.CTokens.{CToken, Word, Str, Sign, CLine, Fresh, Text, after, Mode, Between, InWord, InSign, InQuotes, AfterBackslash, Step, goes_on, ends, is_word_byte, is_long_sign, quoted, tokens_from}
-use Rattle.c_mach.specs.CReading.{quoted_byte, AreWordBytes, IsNameInForm, IsNumberInForm}
+use Rattle.c_state.specs.CTokens.{CToken, Word, Str, Sign, CLine, Fresh, Text, after, Mode, Between, InWord, InSign, InQuotes, AfterBackslash, Step, goes_on, ends, is_word_byte, is_long_sign, quoted, tokens_from}
+use Rattle.c_state.specs.CReading.{quoted_byte, AreWordBytes, IsNameInForm, IsNumberInForm}
 
 -- what may follow a word or a sign `*` without becoming a part of it
 abbrev pub Stops : List ℕ → Type 0

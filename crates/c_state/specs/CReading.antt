@@ -4,41 +4,41 @@ use Rattle.std.specs.Prelude.{◌≡◌, ℕ, zero, suc, ◌+◌, ◌^◌, ◌/�
 use Rattle.std.specs.Char.{is_ascii_digit}
 use Rattle.std.specs.List.{flat_map, AllByRecursion}
 use Rattle.std.specs.Str.{bytes_eq}
-use Rattle.c_mach.specs.CTokens.{CToken, Word, Str, Sign, LineEnd, word, sign, is_word_byte, c_tokens}
-use Rattle.c_mach.specs.declared.space.BinaryOp.TheVariants as op
-use Rattle.c_mach.specs.declared.space.Exception.{Exception}
-use Rattle.c_mach.specs.declared.space.Exception.TheVariants as exception
-use Rattle.c_mach.specs.declared.tree.CType.{CType}
-use Rattle.c_mach.specs.declared.tree.CType.TheVariants as type
-use Rattle.c_mach.specs.declared.tree.Variable.{Variable}
-use Rattle.c_mach.specs.declared.tree.Variable.TheVariants as variable
-use Rattle.c_mach.specs.declared.tree.Place.{Place}
-use Rattle.c_mach.specs.declared.tree.Place.TheVariants as place
-use Rattle.c_mach.specs.declared.tree.FunctionName.{FunctionName}
-use Rattle.c_mach.specs.declared.tree.FunctionName.TheVariants as function
-use Rattle.c_mach.specs.declared.tree.ApiRow.{ApiRow}
-use Rattle.c_mach.specs.declared.tree.ApiRow.TheVariants as row
-use Rattle.c_mach.specs.declared.tree.CValue.{CValue}
-use Rattle.c_mach.specs.declared.tree.CValue.TheVariants as value
-use Rattle.c_mach.specs.declared.tree.Comparison.{Comparison}
-use Rattle.c_mach.specs.declared.tree.Comparison.TheVariants as comparison
-use Rattle.c_mach.specs.declared.tree.Target.{Target}
-use Rattle.c_mach.specs.declared.tree.Target.TheVariants as target
-use Rattle.c_mach.specs.declared.tree.CStmt.{CStmt}
-use Rattle.c_mach.specs.declared.tree.CStmt.TheVariants as stmt
-use Rattle.c_mach.specs.declared.tree.Line.{Line}
-use Rattle.c_mach.specs.declared.tree.Line.TheVariants as line
-use Rattle.c_mach.specs.declared.tree.InitialValue.{InitialValue}
-use Rattle.c_mach.specs.declared.tree.InitialValue.TheVariants as initial
-use Rattle.c_mach.specs.declared.tree.Declaration.{Declaration}
-use Rattle.c_mach.specs.declared.tree.Parameter.{Parameter}
-use Rattle.c_mach.specs.declared.tree.CHead.{CHead}
-use Rattle.c_mach.specs.declared.tree.CHead.TheVariants as head
-use Rattle.c_mach.specs.declared.tree.CFunction.{CFunction}
-use Rattle.c_mach.specs.declared.tree.MethodRow.{MethodRow}
-use Rattle.c_mach.specs.declared.tree.CItem.{CItem}
-use Rattle.c_mach.specs.declared.tree.CItem.TheVariants as item
-use Rattle.c_mach.specs.declared.tree.CFile.{CFile}
+use Rattle.c_state.specs.CTokens.{CToken, Word, Str, Sign, LineEnd, word, sign, is_word_byte, c_tokens}
+use Rattle.c_state.specs.declared.space.BinaryOp.TheVariants as op
+use Rattle.c_state.specs.declared.space.Exception.{Exception}
+use Rattle.c_state.specs.declared.space.Exception.TheVariants as exception
+use Rattle.c_state.specs.declared.tree.CType.{CType}
+use Rattle.c_state.specs.declared.tree.CType.TheVariants as type
+use Rattle.c_state.specs.declared.tree.Variable.{Variable}
+use Rattle.c_state.specs.declared.tree.Variable.TheVariants as variable
+use Rattle.c_state.specs.declared.tree.Place.{Place}
+use Rattle.c_state.specs.declared.tree.Place.TheVariants as place
+use Rattle.c_state.specs.declared.tree.FunctionName.{FunctionName}
+use Rattle.c_state.specs.declared.tree.FunctionName.TheVariants as function
+use Rattle.c_state.specs.declared.tree.ApiRow.{ApiRow}
+use Rattle.c_state.specs.declared.tree.ApiRow.TheVariants as row
+use Rattle.c_state.specs.declared.tree.CValue.{CValue}
+use Rattle.c_state.specs.declared.tree.CValue.TheVariants as value
+use Rattle.c_state.specs.declared.tree.Comparison.{Comparison}
+use Rattle.c_state.specs.declared.tree.Comparison.TheVariants as comparison
+use Rattle.c_state.specs.declared.tree.Target.{Target}
+use Rattle.c_state.specs.declared.tree.Target.TheVariants as target
+use Rattle.c_state.specs.declared.tree.CStmt.{CStmt}
+use Rattle.c_state.specs.declared.tree.CStmt.TheVariants as stmt
+use Rattle.c_state.specs.declared.tree.Line.{Line}
+use Rattle.c_state.specs.declared.tree.Line.TheVariants as line
+use Rattle.c_state.specs.declared.tree.InitialValue.{InitialValue}
+use Rattle.c_state.specs.declared.tree.InitialValue.TheVariants as initial
+use Rattle.c_state.specs.declared.tree.Declaration.{Declaration}
+use Rattle.c_state.specs.declared.tree.Parameter.{Parameter}
+use Rattle.c_state.specs.declared.tree.CHead.{CHead}
+use Rattle.c_state.specs.declared.tree.CHead.TheVariants as head
+use Rattle.c_state.specs.declared.tree.CFunction.{CFunction}
+use Rattle.c_state.specs.declared.tree.MethodRow.{MethodRow}
+use Rattle.c_state.specs.declared.tree.CItem.{CItem}
+use Rattle.c_state.specs.declared.tree.CItem.TheVariants as item
+use Rattle.c_state.specs.declared.tree.CFile.{CFile}
 
 -- ---- the items of a list of tokens
 

@@ -1,16 +1,16 @@
 -- Objects, what a script entry answers to an operation, and what the operation comes to. The object space is the project's own.
 use Rattle.std.specs.Prelude.{ℕ, Bool, true, false, ◌&&◌, List, [], ◌∷◌, nat_eq, nat_lt, if◌then◌else◌}
 use Rattle.std.specs.Str.{bytes_eq}
-use Rattle.c_mach.specs.declared.space.Exception.{Exception}
-use Rattle.c_mach.specs.declared.space.Exception.TheVariants as exception
-use Rattle.c_mach.specs.declared.space.Obj.{Obj}
-use Rattle.c_mach.specs.declared.space.Obj.TheVariants as obj
-use Rattle.c_mach.specs.declared.space.Entry.{Entry}
-use Rattle.c_mach.specs.declared.space.Entry.TheVariants as entry
-use Rattle.c_mach.specs.declared.space.Op.{Op}
-use Rattle.c_mach.specs.declared.space.Op.TheVariants as op
-use Rattle.c_mach.specs.declared.space.Answer.{Answer}
-use Rattle.c_mach.specs.declared.space.Answer.TheVariants as answers
+use Rattle.c_state.specs.declared.space.Exception.{Exception}
+use Rattle.c_state.specs.declared.space.Exception.TheVariants as exception
+use Rattle.c_state.specs.declared.space.Obj.{Obj}
+use Rattle.c_state.specs.declared.space.Obj.TheVariants as obj
+use Rattle.c_state.specs.declared.space.Entry.{Entry}
+use Rattle.c_state.specs.declared.space.Entry.TheVariants as entry
+use Rattle.c_state.specs.declared.space.Op.{Op}
+use Rattle.c_state.specs.declared.space.Op.TheVariants as op
+use Rattle.c_state.specs.declared.space.Answer.{Answer}
+use Rattle.c_state.specs.declared.space.Answer.TheVariants as answers
 
 -- exception types by number
 abbrev pub exception_number : Exception → ℕ

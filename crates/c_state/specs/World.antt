@@ -1,11 +1,11 @@
 -- What the sources' meaning and the C share: the entries that are left, the counters, and the events so far.
 use Rattle.std.specs.Prelude.{ℕ, List, [], ◌∷◌, ◌++◌}
-use Rattle.c_mach.specs.declared.space.Obj.{Obj}
-use Rattle.c_mach.specs.declared.space.Entry.{Entry}
-use Rattle.c_mach.specs.declared.space.Op.{Op}
-use Rattle.c_mach.specs.declared.space.Answer.{Answer}
-use Rattle.c_mach.specs.declared.space.Event.{Event}
-use Rattle.c_mach.specs.Objects.{answer, read_objs}
+use Rattle.c_state.specs.declared.space.Obj.{Obj}
+use Rattle.c_state.specs.declared.space.Entry.{Entry}
+use Rattle.c_state.specs.declared.space.Op.{Op}
+use Rattle.c_state.specs.declared.space.Answer.{Answer}
+use Rattle.c_state.specs.declared.space.Event.{Event}
+use Rattle.c_state.specs.Objects.{answer, read_objs}
 
 -- the world on both sides
 pub record World : Type 0 where

@@ -1,45 +1,45 @@
 -- What operands read, and the functions and tables that the linked files give.
 use Rattle.std.specs.Prelude.{ℕ, zero, suc, Bool, true, false, not, ◌&&◌, ◌||◌, List, [], ◌∷◌, ◌++◌, Option, Some, None, ℤ, pos, length, map, if◌then◌else◌, nat_eq, drop, slice_get, slice_index_or}
 use Rattle.std.specs.Str.{bytes_eq}
-use Rattle.c_mach.specs.declared.space.Obj.{Obj}
-use Rattle.c_mach.specs.declared.space.Obj.TheVariants as obj
-use Rattle.c_mach.specs.declared.space.Callee.{Callee}
-use Rattle.c_mach.specs.declared.space.Callee.TheVariants as callee
-use Rattle.c_mach.specs.declared.tree.CType.{CType}
-use Rattle.c_mach.specs.declared.tree.CType.TheVariants as type
-use Rattle.c_mach.specs.declared.tree.Variable.{Variable}
-use Rattle.c_mach.specs.declared.tree.Variable.TheVariants as variable
-use Rattle.c_mach.specs.declared.tree.Place.{Place}
-use Rattle.c_mach.specs.declared.tree.Place.TheVariants as place
-use Rattle.c_mach.specs.declared.tree.FunctionName.{FunctionName}
-use Rattle.c_mach.specs.declared.tree.FunctionName.TheVariants as function
-use Rattle.c_mach.specs.declared.tree.CValue.{CValue}
-use Rattle.c_mach.specs.declared.tree.CValue.TheVariants as operand
-use Rattle.c_mach.specs.declared.tree.Line.{Line}
-use Rattle.c_mach.specs.declared.tree.Line.TheVariants as line
-use Rattle.c_mach.specs.declared.tree.CStmt.{CStmt}
-use Rattle.c_mach.specs.declared.tree.InitialValue.{InitialValue}
-use Rattle.c_mach.specs.declared.tree.InitialValue.TheVariants as initial
-use Rattle.c_mach.specs.declared.tree.Declaration.{Declaration}
-use Rattle.c_mach.specs.declared.tree.Parameter.{Parameter}
-use Rattle.c_mach.specs.declared.tree.CHead.{CHead}
-use Rattle.c_mach.specs.declared.tree.CHead.TheVariants as head
-use Rattle.c_mach.specs.declared.tree.CFunction.{CFunction}
-use Rattle.c_mach.specs.declared.tree.MethodRow.{MethodRow}
-use Rattle.c_mach.specs.declared.tree.CItem.{CItem}
-use Rattle.c_mach.specs.declared.tree.CItem.TheVariants as item
-use Rattle.c_mach.specs.declared.tree.CFile.{CFile}
-use Rattle.c_mach.specs.declared.state.Kind.{Kind}
-use Rattle.c_mach.specs.declared.state.Kind.TheVariants as kind
-use Rattle.c_mach.specs.declared.state.Value.{Value}
-use Rattle.c_mach.specs.declared.state.Value.TheVariants as value
-use Rattle.c_mach.specs.declared.state.Reading.{Reading}
-use Rattle.c_mach.specs.declared.state.Cell.{Cell}
-use Rattle.c_mach.specs.declared.state.Spot.{Spot}
-use Rattle.c_mach.specs.declared.state.Entered.{Entered}
-use Rattle.c_mach.specs.declared.state.Doing.{Doing}
-use Rattle.c_mach.specs.declared.state.Doing.TheVariants as doing
-use Rattle.c_mach.specs.State.{kind_of, is_module_variable, wrap_int, converts, converted, lookup, spot, spots_at, Frame, CState, has}
+use Rattle.c_state.specs.declared.space.Obj.{Obj}
+use Rattle.c_state.specs.declared.space.Obj.TheVariants as obj
+use Rattle.c_state.specs.declared.space.Callee.{Callee}
+use Rattle.c_state.specs.declared.space.Callee.TheVariants as callee
+use Rattle.c_state.specs.declared.tree.CType.{CType}
+use Rattle.c_state.specs.declared.tree.CType.TheVariants as type
+use Rattle.c_state.specs.declared.tree.Variable.{Variable}
+use Rattle.c_state.specs.declared.tree.Variable.TheVariants as variable
+use Rattle.c_state.specs.declared.tree.Place.{Place}
+use Rattle.c_state.specs.declared.tree.Place.TheVariants as place
+use Rattle.c_state.specs.declared.tree.FunctionName.{FunctionName}
+use Rattle.c_state.specs.declared.tree.FunctionName.TheVariants as function
+use Rattle.c_state.specs.declared.tree.CValue.{CValue}
+use Rattle.c_state.specs.declared.tree.CValue.TheVariants as operand
+use Rattle.c_state.specs.declared.tree.Line.{Line}
+use Rattle.c_state.specs.declared.tree.Line.TheVariants as line
+use Rattle.c_state.specs.declared.tree.CStmt.{CStmt}
+use Rattle.c_state.specs.declared.tree.InitialValue.{InitialValue}
+use Rattle.c_state.specs.declared.tree.InitialValue.TheVariants as initial
+use Rattle.c_state.specs.declared.tree.Declaration.{Declaration}
+use Rattle.c_state.specs.declared.tree.Parameter.{Parameter}
+use Rattle.c_state.specs.declared.tree.CHead.{CHead}
+use Rattle.c_state.specs.declared.tree.CHead.TheVariants as head
+use Rattle.c_state.specs.declared.tree.CFunction.{CFunction}
+use Rattle.c_state.specs.declared.tree.MethodRow.{MethodRow}
+use Rattle.c_state.specs.declared.tree.CItem.{CItem}
+use Rattle.c_state.specs.declared.tree.CItem.TheVariants as item
+use Rattle.c_state.specs.declared.tree.CFile.{CFile}
+use Rattle.c_state.specs.declared.state.Kind.{Kind}
+use Rattle.c_state.specs.declared.state.Kind.TheVariants as kind
+use Rattle.c_state.specs.declared.state.Value.{Value}
+use Rattle.c_state.specs.declared.state.Value.TheVariants as value
+use Rattle.c_state.specs.declared.state.Reading.{Reading}
+use Rattle.c_state.specs.declared.state.Cell.{Cell}
+use Rattle.c_state.specs.declared.state.Spot.{Spot}
+use Rattle.c_state.specs.declared.state.Entered.{Entered}
+use Rattle.c_state.specs.declared.state.Doing.{Doing}
+use Rattle.c_state.specs.declared.state.Doing.TheVariants as doing
+use Rattle.c_state.specs.State.{kind_of, is_module_variable, wrap_int, converts, converted, lookup, spot, spots_at, Frame, CState, has}
 
 -- what follows a label among the lines
 abbrev pub after_label : List Line → ℕ → Option (List Line)

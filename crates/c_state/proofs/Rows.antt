@@ -1,45 +1,45 @@
 -- Runs of small programs, computed: their traces, and the faults of wrong C.
 use Rattle.std.proofs.Common.{◌≡◌, ℕ, false, List, [], ◌∷◌, ◌++◌, Option, Some, None, refl}
 use Rattle.std.specs.Prelude.{codes}
-use Rattle.c_mach.specs.declared.space.Exception.TheVariants as exception
-use Rattle.c_mach.specs.declared.space.BinaryOp.TheVariants as binary
-use Rattle.c_mach.specs.declared.space.Obj.{Obj}
-use Rattle.c_mach.specs.declared.space.Obj.TheVariants as obj
-use Rattle.c_mach.specs.declared.space.Callee.{Callee}
-use Rattle.c_mach.specs.declared.space.Callee.TheVariants as callee
-use Rattle.c_mach.specs.declared.space.Entry.{Entry}
-use Rattle.c_mach.specs.declared.space.Entry.TheVariants as entry
-use Rattle.c_mach.specs.declared.space.Op.TheVariants as op
-use Rattle.c_mach.specs.declared.space.Answer.TheVariants as answers
-use Rattle.c_mach.specs.declared.space.Event.{Event}
-use Rattle.c_mach.specs.declared.space.Event.TheVariants as event
-use Rattle.c_mach.specs.declared.tree.CType.TheVariants as type
-use Rattle.c_mach.specs.declared.tree.Variable.{Variable}
-use Rattle.c_mach.specs.declared.tree.Variable.TheVariants as variable
-use Rattle.c_mach.specs.declared.tree.Place.TheVariants as place
-use Rattle.c_mach.specs.declared.tree.FunctionName.TheVariants as function
-use Rattle.c_mach.specs.declared.tree.ApiRow.TheVariants as row
-use Rattle.c_mach.specs.declared.tree.CValue.{CValue}
-use Rattle.c_mach.specs.declared.tree.CValue.TheVariants as operand
-use Rattle.c_mach.specs.declared.tree.Comparison.TheVariants as comparison
-use Rattle.c_mach.specs.declared.tree.Target.TheVariants as target
-use Rattle.c_mach.specs.declared.tree.CStmt.{CStmt}
-use Rattle.c_mach.specs.declared.tree.CStmt.TheVariants as stmt
-use Rattle.c_mach.specs.declared.tree.Line.{Line}
-use Rattle.c_mach.specs.declared.tree.Line.TheVariants as line
-use Rattle.c_mach.specs.declared.tree.InitialValue.TheVariants as initial
-use Rattle.c_mach.specs.declared.tree.Declaration.{Declaration}
-use Rattle.c_mach.specs.declared.tree.CHead.TheVariants as head
-use Rattle.c_mach.specs.declared.tree.CFunction.{CFunction}
-use Rattle.c_mach.specs.declared.tree.CItem.{CItem}
-use Rattle.c_mach.specs.declared.tree.CItem.TheVariants as item
-use Rattle.c_mach.specs.declared.tree.CFile.{CFile}
-use Rattle.c_mach.specs.declared.state.FaultKind.{FaultKind}
-use Rattle.c_mach.specs.declared.state.FaultKind.TheVariants as fault
-use Rattle.c_mach.specs.declared.state.Step.{Step}
-use Rattle.c_mach.specs.declared.state.Step.TheVariants as step
-use Rattle.c_mach.specs.State.{linked}
-use Rattle.c_mach.specs.Machine.{c_step, c_steps, c_events}
+use Rattle.c_state.specs.declared.space.Exception.TheVariants as exception
+use Rattle.c_state.specs.declared.space.BinaryOp.TheVariants as binary
+use Rattle.c_state.specs.declared.space.Obj.{Obj}
+use Rattle.c_state.specs.declared.space.Obj.TheVariants as obj
+use Rattle.c_state.specs.declared.space.Callee.{Callee}
+use Rattle.c_state.specs.declared.space.Callee.TheVariants as callee
+use Rattle.c_state.specs.declared.space.Entry.{Entry}
+use Rattle.c_state.specs.declared.space.Entry.TheVariants as entry
+use Rattle.c_state.specs.declared.space.Op.TheVariants as op
+use Rattle.c_state.specs.declared.space.Answer.TheVariants as answers
+use Rattle.c_state.specs.declared.space.Event.{Event}
+use Rattle.c_state.specs.declared.space.Event.TheVariants as event
+use Rattle.c_state.specs.declared.tree.CType.TheVariants as type
+use Rattle.c_state.specs.declared.tree.Variable.{Variable}
+use Rattle.c_state.specs.declared.tree.Variable.TheVariants as variable
+use Rattle.c_state.specs.declared.tree.Place.TheVariants as place
+use Rattle.c_state.specs.declared.tree.FunctionName.TheVariants as function
+use Rattle.c_state.specs.declared.tree.ApiRow.TheVariants as row
+use Rattle.c_state.specs.declared.tree.CValue.{CValue}
+use Rattle.c_state.specs.declared.tree.CValue.TheVariants as operand
+use Rattle.c_state.specs.declared.tree.Comparison.TheVariants as comparison
+use Rattle.c_state.specs.declared.tree.Target.TheVariants as target
+use Rattle.c_state.specs.declared.tree.CStmt.{CStmt}
+use Rattle.c_state.specs.declared.tree.CStmt.TheVariants as stmt
+use Rattle.c_state.specs.declared.tree.Line.{Line}
+use Rattle.c_state.specs.declared.tree.Line.TheVariants as line
+use Rattle.c_state.specs.declared.tree.InitialValue.TheVariants as initial
+use Rattle.c_state.specs.declared.tree.Declaration.{Declaration}
+use Rattle.c_state.specs.declared.tree.CHead.TheVariants as head
+use Rattle.c_state.specs.declared.tree.CFunction.{CFunction}
+use Rattle.c_state.specs.declared.tree.CItem.{CItem}
+use Rattle.c_state.specs.declared.tree.CItem.TheVariants as item
+use Rattle.c_state.specs.declared.tree.CFile.{CFile}
+use Rattle.c_state.specs.declared.state.FaultKind.{FaultKind}
+use Rattle.c_state.specs.declared.state.FaultKind.TheVariants as fault
+use Rattle.c_state.specs.declared.state.Step.{Step}
+use Rattle.c_state.specs.declared.state.Step.TheVariants as step
+use Rattle.c_state.specs.State.{linked}
+use Rattle.c_state.specs.Machine.{c_step, c_steps, c_events}
 
 -- the C of `def f(a, b): return a + b` in a module m
 

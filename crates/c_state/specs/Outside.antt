@@ -1,30 +1,30 @@
 -- The moves of the outside: it starts initialisations, takes entries, enters functions and answers operations. The project's own.
 use Rattle.std.specs.Prelude.{ℕ, zero, suc, Bool, true, false, List, [], ◌∷◌, ◌++◌, Option, Some, None, ℤ, pos, length}
-use Rattle.c_mach.specs.declared.space.Obj.{Obj}
-use Rattle.c_mach.specs.declared.space.Callee.{Callee}
-use Rattle.c_mach.specs.declared.space.Entry.{Entry}
-use Rattle.c_mach.specs.declared.space.Entry.TheVariants as entry
-use Rattle.c_mach.specs.declared.space.Op.{Op}
-use Rattle.c_mach.specs.declared.space.Answer.{Answer}
-use Rattle.c_mach.specs.declared.space.Event.{Event}
-use Rattle.c_mach.specs.declared.space.Event.TheVariants as event
-use Rattle.c_mach.specs.declared.tree.Variable.{Variable}
-use Rattle.c_mach.specs.declared.tree.ApiRow.{ApiRow}
-use Rattle.c_mach.specs.declared.tree.ApiRow.TheVariants as row
-use Rattle.c_mach.specs.declared.tree.CFunction.{CFunction}
-use Rattle.c_mach.specs.declared.tree.CFile.{CFile}
-use Rattle.c_mach.specs.declared.state.Value.{Value}
-use Rattle.c_mach.specs.declared.state.Value.TheVariants as value
-use Rattle.c_mach.specs.declared.state.Entered.TheVariants as entered
-use Rattle.c_mach.specs.declared.state.Doing.{Doing}
-use Rattle.c_mach.specs.declared.state.Doing.TheVariants as doing
-use Rattle.c_mach.specs.declared.state.Course.{Course}
-use Rattle.c_mach.specs.declared.state.Course.TheVariants as course
-use Rattle.c_mach.specs.Objects.{NewResult, Gave, Raises, new_result, sure_result}
-use Rattle.c_mach.specs.World.{answer_in, read_in}
-use Rattle.c_mach.specs.State.{put_to, Frame, CState}
-use Rattle.c_mach.specs.Reads.{Found, FoundFunction, NotFound, frame_of, entered_by, initializer_from, initializer_name}
-use Rattle.c_mach.specs.Statements.{on, tell, script_to}
+use Rattle.c_state.specs.declared.space.Obj.{Obj}
+use Rattle.c_state.specs.declared.space.Callee.{Callee}
+use Rattle.c_state.specs.declared.space.Entry.{Entry}
+use Rattle.c_state.specs.declared.space.Entry.TheVariants as entry
+use Rattle.c_state.specs.declared.space.Op.{Op}
+use Rattle.c_state.specs.declared.space.Answer.{Answer}
+use Rattle.c_state.specs.declared.space.Event.{Event}
+use Rattle.c_state.specs.declared.space.Event.TheVariants as event
+use Rattle.c_state.specs.declared.tree.Variable.{Variable}
+use Rattle.c_state.specs.declared.tree.ApiRow.{ApiRow}
+use Rattle.c_state.specs.declared.tree.ApiRow.TheVariants as row
+use Rattle.c_state.specs.declared.tree.CFunction.{CFunction}
+use Rattle.c_state.specs.declared.tree.CFile.{CFile}
+use Rattle.c_state.specs.declared.state.Value.{Value}
+use Rattle.c_state.specs.declared.state.Value.TheVariants as value
+use Rattle.c_state.specs.declared.state.Entered.TheVariants as entered
+use Rattle.c_state.specs.declared.state.Doing.{Doing}
+use Rattle.c_state.specs.declared.state.Doing.TheVariants as doing
+use Rattle.c_state.specs.declared.state.Course.{Course}
+use Rattle.c_state.specs.declared.state.Course.TheVariants as course
+use Rattle.c_state.specs.Objects.{NewResult, Gave, Raises, new_result, sure_result}
+use Rattle.c_state.specs.World.{answer_in, read_in}
+use Rattle.c_state.specs.State.{put_to, Frame, CState}
+use Rattle.c_state.specs.Reads.{Found, FoundFunction, NotFound, frame_of, entered_by, initializer_from, initializer_name}
+use Rattle.c_state.specs.Statements.{on, tell, script_to}
 
 -- how an answer comes back to the frame that asked
 pub data How : Type 0 where

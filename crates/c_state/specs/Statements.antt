@@ -1,47 +1,47 @@
 -- What one statement does: its faults in their order, and then its effect.
 use Rattle.std.specs.Prelude.{ℕ, zero, suc, Bool, true, false, not, ◌&&◌, ◌||◌, List, [], ◌∷◌, ◌++◌, Option, Some, None, ℤ, pos, negsuc, if◌then◌else◌, nat_eq, is_none, slice_get}
-use Rattle.c_mach.specs.declared.space.BinaryOp.{BinaryOp}
-use Rattle.c_mach.specs.declared.space.Obj.{Obj}
-use Rattle.c_mach.specs.declared.space.Entry.{Entry}
-use Rattle.c_mach.specs.declared.space.Op.{Op}
-use Rattle.c_mach.specs.declared.space.Op.TheVariants as op
-use Rattle.c_mach.specs.declared.space.Event.{Event}
-use Rattle.c_mach.specs.declared.space.Event.TheVariants as event
-use Rattle.c_mach.specs.declared.tree.Variable.{Variable}
-use Rattle.c_mach.specs.declared.tree.Place.{Place}
-use Rattle.c_mach.specs.declared.tree.FunctionName.{FunctionName}
-use Rattle.c_mach.specs.declared.tree.ApiRow.{ApiRow}
-use Rattle.c_mach.specs.declared.tree.ApiRow.TheVariants as row
-use Rattle.c_mach.specs.declared.tree.CValue.{CValue}
-use Rattle.c_mach.specs.declared.tree.Comparison.{Comparison}
-use Rattle.c_mach.specs.declared.tree.Comparison.TheVariants as comparison
-use Rattle.c_mach.specs.declared.tree.Target.{Target}
-use Rattle.c_mach.specs.declared.tree.Target.TheVariants as target
-use Rattle.c_mach.specs.declared.tree.CStmt.{CStmt}
-use Rattle.c_mach.specs.declared.tree.CStmt.TheVariants as stmt
-use Rattle.c_mach.specs.declared.tree.Line.{Line}
-use Rattle.c_mach.specs.declared.tree.Line.TheVariants as line
-use Rattle.c_mach.specs.declared.tree.CFunction.{CFunction}
-use Rattle.c_mach.specs.declared.tree.CFile.{CFile}
-use Rattle.c_mach.specs.declared.state.FaultKind.{FaultKind}
-use Rattle.c_mach.specs.declared.state.FaultKind.TheVariants as fault
-use Rattle.c_mach.specs.declared.state.Kind.{Kind}
-use Rattle.c_mach.specs.declared.state.Kind.TheVariants as kind
-use Rattle.c_mach.specs.declared.state.Value.{Value}
-use Rattle.c_mach.specs.declared.state.Value.TheVariants as value
-use Rattle.c_mach.specs.declared.state.Reading.{Reading}
-use Rattle.c_mach.specs.declared.state.Cell.{Cell}
-use Rattle.c_mach.specs.declared.state.Spot.{Spot}
-use Rattle.c_mach.specs.declared.state.Entered.{Entered}
-use Rattle.c_mach.specs.declared.state.Entered.TheVariants as entered
-use Rattle.c_mach.specs.declared.state.Doing.{Doing}
-use Rattle.c_mach.specs.declared.state.Doing.TheVariants as doing
-use Rattle.c_mach.specs.declared.state.Course.{Course}
-use Rattle.c_mach.specs.declared.state.Course.TheVariants as course
-use Rattle.c_mach.specs.Objects.{same_obj}
-use Rattle.c_mach.specs.World.{say, with_script}
-use Rattle.c_mach.specs.State.{is_constant, is_module_variable, is_number, is_object, converts, converted, lookup, put, put_to, spot, put_spot, spots_at, set_spots, Frame, CState, has, lose, held, all_held}
-use Rattle.c_mach.specs.Reads.{after_label, read, read_each, reads_module_variable, any_module_variable, lends, loans_after, is_set, all_set, is_null, any_null, passed, fits, receives, Found, FoundFunction, NotFound, function_named, parameter_kinds, result_kind, values_of, frame_of}
+use Rattle.c_state.specs.declared.space.BinaryOp.{BinaryOp}
+use Rattle.c_state.specs.declared.space.Obj.{Obj}
+use Rattle.c_state.specs.declared.space.Entry.{Entry}
+use Rattle.c_state.specs.declared.space.Op.{Op}
+use Rattle.c_state.specs.declared.space.Op.TheVariants as op
+use Rattle.c_state.specs.declared.space.Event.{Event}
+use Rattle.c_state.specs.declared.space.Event.TheVariants as event
+use Rattle.c_state.specs.declared.tree.Variable.{Variable}
+use Rattle.c_state.specs.declared.tree.Place.{Place}
+use Rattle.c_state.specs.declared.tree.FunctionName.{FunctionName}
+use Rattle.c_state.specs.declared.tree.ApiRow.{ApiRow}
+use Rattle.c_state.specs.declared.tree.ApiRow.TheVariants as row
+use Rattle.c_state.specs.declared.tree.CValue.{CValue}
+use Rattle.c_state.specs.declared.tree.Comparison.{Comparison}
+use Rattle.c_state.specs.declared.tree.Comparison.TheVariants as comparison
+use Rattle.c_state.specs.declared.tree.Target.{Target}
+use Rattle.c_state.specs.declared.tree.Target.TheVariants as target
+use Rattle.c_state.specs.declared.tree.CStmt.{CStmt}
+use Rattle.c_state.specs.declared.tree.CStmt.TheVariants as stmt
+use Rattle.c_state.specs.declared.tree.Line.{Line}
+use Rattle.c_state.specs.declared.tree.Line.TheVariants as line
+use Rattle.c_state.specs.declared.tree.CFunction.{CFunction}
+use Rattle.c_state.specs.declared.tree.CFile.{CFile}
+use Rattle.c_state.specs.declared.state.FaultKind.{FaultKind}
+use Rattle.c_state.specs.declared.state.FaultKind.TheVariants as fault
+use Rattle.c_state.specs.declared.state.Kind.{Kind}
+use Rattle.c_state.specs.declared.state.Kind.TheVariants as kind
+use Rattle.c_state.specs.declared.state.Value.{Value}
+use Rattle.c_state.specs.declared.state.Value.TheVariants as value
+use Rattle.c_state.specs.declared.state.Reading.{Reading}
+use Rattle.c_state.specs.declared.state.Cell.{Cell}
+use Rattle.c_state.specs.declared.state.Spot.{Spot}
+use Rattle.c_state.specs.declared.state.Entered.{Entered}
+use Rattle.c_state.specs.declared.state.Entered.TheVariants as entered
+use Rattle.c_state.specs.declared.state.Doing.{Doing}
+use Rattle.c_state.specs.declared.state.Doing.TheVariants as doing
+use Rattle.c_state.specs.declared.state.Course.{Course}
+use Rattle.c_state.specs.declared.state.Course.TheVariants as course
+use Rattle.c_state.specs.Objects.{same_obj}
+use Rattle.c_state.specs.World.{say, with_script}
+use Rattle.c_state.specs.State.{is_constant, is_module_variable, is_number, is_object, converts, converted, lookup, put, put_to, spot, put_spot, spots_at, set_spots, Frame, CState, has, lose, held, all_held}
+use Rattle.c_state.specs.Reads.{after_label, read, read_each, reads_module_variable, any_module_variable, lends, loans_after, is_set, all_set, is_null, any_null, passed, fits, receives, Found, FoundFunction, NotFound, function_named, parameter_kinds, result_kind, values_of, frame_of}
 
 -- what a move comes to: the next state, the end of the run, or a fault
 pub data Moved : Type 0 where

@@ -1,9 +1,9 @@
 -- Scripts that name no instance after its death. The project's own.
 use Rattle.std.specs.Prelude.{ℕ, Bool, true, false, not, ◌&&◌, ◌||◌, nat_eq, IsTrue, List, [], ◌∷◌}
-use Rattle.c_mach.specs.declared.space.Obj.{Obj}
-use Rattle.c_mach.specs.declared.space.Obj.TheVariants as obj
-use Rattle.c_mach.specs.declared.space.Entry.{Entry}
-use Rattle.c_mach.specs.declared.space.Entry.TheVariants as entry
+use Rattle.c_state.specs.declared.space.Obj.{Obj}
+use Rattle.c_state.specs.declared.space.Obj.TheVariants as obj
+use Rattle.c_state.specs.declared.space.Entry.{Entry}
+use Rattle.c_state.specs.declared.space.Entry.TheVariants as entry
 
 abbrev pub is_inst : ℕ → Obj → Bool
 is_inst k (obj.Inst j) = nat_eq k j

@@ -1,19 +1,19 @@
 -- The machine: a move is one C statement, or one move of the outside. A step settles, runs one statement and settles.
 use Rattle.std.specs.Prelude.{ℕ, zero, suc, Bool, true, false, List, [], ◌∷◌, length, if◌then◌else◌}
-use Rattle.c_mach.specs.declared.space.Entry.{Entry}
-use Rattle.c_mach.specs.declared.space.Event.{Event}
-use Rattle.c_mach.specs.declared.space.Event.TheVariants as event
-use Rattle.c_mach.specs.declared.tree.CFile.{CFile}
-use Rattle.c_mach.specs.declared.state.FaultKind.TheVariants as fault
-use Rattle.c_mach.specs.declared.state.Step.{Step}
-use Rattle.c_mach.specs.declared.state.Step.TheVariants as step
-use Rattle.c_mach.specs.declared.state.Doing.{Doing}
-use Rattle.c_mach.specs.declared.state.Doing.TheVariants as doing
-use Rattle.c_mach.specs.declared.state.Course.{Course}
-use Rattle.c_mach.specs.declared.state.Course.TheVariants as course
-use Rattle.c_mach.specs.State.{Frame, CState, linked}
-use Rattle.c_mach.specs.Statements.{Moved, Went, Over, Faulted, off, tell, run_line}
-use Rattle.c_mach.specs.Outside.{await, idle}
+use Rattle.c_state.specs.declared.space.Entry.{Entry}
+use Rattle.c_state.specs.declared.space.Event.{Event}
+use Rattle.c_state.specs.declared.space.Event.TheVariants as event
+use Rattle.c_state.specs.declared.tree.CFile.{CFile}
+use Rattle.c_state.specs.declared.state.FaultKind.TheVariants as fault
+use Rattle.c_state.specs.declared.state.Step.{Step}
+use Rattle.c_state.specs.declared.state.Step.TheVariants as step
+use Rattle.c_state.specs.declared.state.Doing.{Doing}
+use Rattle.c_state.specs.declared.state.Doing.TheVariants as doing
+use Rattle.c_state.specs.declared.state.Course.{Course}
+use Rattle.c_state.specs.declared.state.Course.TheVariants as course
+use Rattle.c_state.specs.State.{Frame, CState, linked}
+use Rattle.c_state.specs.Statements.{Moved, Went, Over, Faulted, off, tell, run_line}
+use Rattle.c_state.specs.Outside.{await, idle}
 
 abbrev pub by_frame : List CFile → CState → Frame → List Frame → Doing → Moved
 by_frame files c f fs doing.Runs = run_line files c f fs f.code

@@ -2,31 +2,31 @@
 use Rattle.std.proofs.Common.{◌≡◌, ℕ, zero, Bool, true, false, ◌&&◌, List, [], ◌∷◌, ◌++◌, map, refl, ap, ◌∙◌, append_assoc}
 use Rattle.std.specs.Prelude.{Option, Some, None, is_none, unwrap_or, if◌then◌else◌, codes}
 use Rattle.std.specs.List.{flat_map, list_all, AllByRecursion}
-use Rattle.c_mach.specs.CTokens.{CToken, Word, sign, word, c_tokens}
-use Rattle.c_mach.specs.CReading.{Role, Plain, Parenthesis, Semicolon, Opens, Closes, EndsLine, role_of, ItemPlace, Outside, Inside, item_start, place_after, with_token, items_from, c_items, spelling, listed_spelling, type_spelling, value_spelling, target_spelling, comparison_spelling, goto_spelling, statement_spelling, line_spelling, declaration_spelling, initial_spelling, parameter_spelling, head_spelling, body_spelling, method_spelling, call_spelling, destination_spelling, void_or, plain_head_spelling, IsItemInForm, IsReading, numbered_name, row_name, function_name}
-use Rattle.c_mach.specs.declared.tree.CType.{CType}
-use Rattle.c_mach.specs.declared.tree.CType.TheVariants as type
-use Rattle.c_mach.specs.declared.tree.Variable.{Variable}
-use Rattle.c_mach.specs.declared.tree.CValue.{CValue}
-use Rattle.c_mach.specs.declared.tree.CValue.TheVariants as value
-use Rattle.c_mach.specs.declared.tree.Comparison.{Comparison}
-use Rattle.c_mach.specs.declared.tree.Comparison.TheVariants as comparison
-use Rattle.c_mach.specs.declared.tree.Target.{Target}
-use Rattle.c_mach.specs.declared.tree.Target.TheVariants as target
-use Rattle.c_mach.specs.declared.tree.CStmt.{CStmt}
-use Rattle.c_mach.specs.declared.tree.CStmt.TheVariants as stmt
-use Rattle.c_mach.specs.declared.tree.Line.{Line}
-use Rattle.c_mach.specs.declared.tree.Line.TheVariants as line
-use Rattle.c_mach.specs.declared.tree.InitialValue.{InitialValue}
-use Rattle.c_mach.specs.declared.tree.InitialValue.TheVariants as initial
-use Rattle.c_mach.specs.declared.tree.Declaration.{Declaration}
-use Rattle.c_mach.specs.declared.tree.Parameter.{Parameter}
-use Rattle.c_mach.specs.declared.tree.CHead.{CHead}
-use Rattle.c_mach.specs.declared.tree.CHead.TheVariants as head
-use Rattle.c_mach.specs.declared.tree.CFunction.{CFunction}
-use Rattle.c_mach.specs.declared.tree.MethodRow.{MethodRow}
-use Rattle.c_mach.specs.declared.tree.CItem.{CItem}
-use Rattle.c_mach.specs.declared.tree.CItem.TheVariants as item
+use Rattle.c_state.specs.CTokens.{CToken, Word, sign, word, c_tokens}
+use Rattle.c_state.specs.CReading.{Role, Plain, Parenthesis, Semicolon, Opens, Closes, EndsLine, role_of, ItemPlace, Outside, Inside, item_start, place_after, with_token, items_from, c_items, spelling, listed_spelling, type_spelling, value_spelling, target_spelling, comparison_spelling, goto_spelling, statement_spelling, line_spelling, declaration_spelling, initial_spelling, parameter_spelling, head_spelling, body_spelling, method_spelling, call_spelling, destination_spelling, void_or, plain_head_spelling, IsItemInForm, IsReading, numbered_name, row_name, function_name}
+use Rattle.c_state.specs.declared.tree.CType.{CType}
+use Rattle.c_state.specs.declared.tree.CType.TheVariants as type
+use Rattle.c_state.specs.declared.tree.Variable.{Variable}
+use Rattle.c_state.specs.declared.tree.CValue.{CValue}
+use Rattle.c_state.specs.declared.tree.CValue.TheVariants as value
+use Rattle.c_state.specs.declared.tree.Comparison.{Comparison}
+use Rattle.c_state.specs.declared.tree.Comparison.TheVariants as comparison
+use Rattle.c_state.specs.declared.tree.Target.{Target}
+use Rattle.c_state.specs.declared.tree.Target.TheVariants as target
+use Rattle.c_state.specs.declared.tree.CStmt.{CStmt}
+use Rattle.c_state.specs.declared.tree.CStmt.TheVariants as stmt
+use Rattle.c_state.specs.declared.tree.Line.{Line}
+use Rattle.c_state.specs.declared.tree.Line.TheVariants as line
+use Rattle.c_state.specs.declared.tree.InitialValue.{InitialValue}
+use Rattle.c_state.specs.declared.tree.InitialValue.TheVariants as initial
+use Rattle.c_state.specs.declared.tree.Declaration.{Declaration}
+use Rattle.c_state.specs.declared.tree.Parameter.{Parameter}
+use Rattle.c_state.specs.declared.tree.CHead.{CHead}
+use Rattle.c_state.specs.declared.tree.CHead.TheVariants as head
+use Rattle.c_state.specs.declared.tree.CFunction.{CFunction}
+use Rattle.c_state.specs.declared.tree.MethodRow.{MethodRow}
+use Rattle.c_state.specs.declared.tree.CItem.{CItem}
+use Rattle.c_state.specs.declared.tree.CItem.TheVariants as item
 
 -- whether a list of tokens has no more tokens
 abbrev pub is_end : List CToken → Bool

@@ -1,30 +1,30 @@
 -- The state of the C: variables, places, frames and the ledger. The project's own, after the Python/C API manual's rules on references.
 use Rattle.std.specs.Prelude.{ℕ, suc, Bool, true, false, ◌&&◌, ◌||◌, ◌-◌, ◌%◌, List, [], ◌∷◌, Option, Some, None, ℤ, pos, negsuc, nat_eq, nat_lt, slice_index_or, slice_set, if◌then◌else◌}
-use Rattle.c_mach.specs.declared.space.Obj.{Obj}
-use Rattle.c_mach.specs.declared.space.Entry.{Entry}
-use Rattle.c_mach.specs.declared.tree.CType.{CType}
-use Rattle.c_mach.specs.declared.tree.CType.TheVariants as type
-use Rattle.c_mach.specs.declared.tree.Variable.{Variable}
-use Rattle.c_mach.specs.declared.tree.Variable.TheVariants as variable
-use Rattle.c_mach.specs.declared.tree.Place.{Place}
-use Rattle.c_mach.specs.declared.tree.Place.TheVariants as place
-use Rattle.c_mach.specs.declared.tree.Line.{Line}
-use Rattle.c_mach.specs.declared.tree.CFunction.{CFunction}
-use Rattle.c_mach.specs.declared.tree.CItem.{CItem}
-use Rattle.c_mach.specs.declared.tree.CItem.TheVariants as item
-use Rattle.c_mach.specs.declared.tree.CFile.{CFile}
-use Rattle.c_mach.specs.declared.state.Kind.{Kind}
-use Rattle.c_mach.specs.declared.state.Kind.TheVariants as kind
-use Rattle.c_mach.specs.declared.state.Value.{Value}
-use Rattle.c_mach.specs.declared.state.Value.TheVariants as value
-use Rattle.c_mach.specs.declared.state.Cell.{Cell}
-use Rattle.c_mach.specs.declared.state.Spot.{Spot}
-use Rattle.c_mach.specs.declared.state.Entered.{Entered}
-use Rattle.c_mach.specs.declared.state.Doing.{Doing}
-use Rattle.c_mach.specs.declared.state.Course.{Course}
-use Rattle.c_mach.specs.declared.state.Course.TheVariants as course
-use Rattle.c_mach.specs.Objects.{same_obj, permanent}
-use Rattle.c_mach.specs.World.{World, first_world}
+use Rattle.c_state.specs.declared.space.Obj.{Obj}
+use Rattle.c_state.specs.declared.space.Entry.{Entry}
+use Rattle.c_state.specs.declared.tree.CType.{CType}
+use Rattle.c_state.specs.declared.tree.CType.TheVariants as type
+use Rattle.c_state.specs.declared.tree.Variable.{Variable}
+use Rattle.c_state.specs.declared.tree.Variable.TheVariants as variable
+use Rattle.c_state.specs.declared.tree.Place.{Place}
+use Rattle.c_state.specs.declared.tree.Place.TheVariants as place
+use Rattle.c_state.specs.declared.tree.Line.{Line}
+use Rattle.c_state.specs.declared.tree.CFunction.{CFunction}
+use Rattle.c_state.specs.declared.tree.CItem.{CItem}
+use Rattle.c_state.specs.declared.tree.CItem.TheVariants as item
+use Rattle.c_state.specs.declared.tree.CFile.{CFile}
+use Rattle.c_state.specs.declared.state.Kind.{Kind}
+use Rattle.c_state.specs.declared.state.Kind.TheVariants as kind
+use Rattle.c_state.specs.declared.state.Value.{Value}
+use Rattle.c_state.specs.declared.state.Value.TheVariants as value
+use Rattle.c_state.specs.declared.state.Cell.{Cell}
+use Rattle.c_state.specs.declared.state.Spot.{Spot}
+use Rattle.c_state.specs.declared.state.Entered.{Entered}
+use Rattle.c_state.specs.declared.state.Doing.{Doing}
+use Rattle.c_state.specs.declared.state.Course.{Course}
+use Rattle.c_state.specs.declared.state.Course.TheVariants as course
+use Rattle.c_state.specs.Objects.{same_obj, permanent}
+use Rattle.c_state.specs.World.{World, first_world}
 
 abbrev pub same_variable : Variable → Variable → Bool
 same_variable (variable.Parameter i) (variable.Parameter j) = nat_eq i j
