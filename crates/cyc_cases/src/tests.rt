@@ -1,7 +1,8 @@
 use cy_io::{MemFiles, MemSink, SureFiles, SureSink};
-use cyc_top::{Status, cyc, thin};
+use cyc_top::{Status, cyc};
 use std::alloc::{AllocError, Global};
 use std::test::Fail;
+use thin_sound::thin;
 
 const SOURCE: &[u8] = b"def f(a, b): return a + b\n";
 

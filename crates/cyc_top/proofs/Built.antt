@@ -3,7 +3,7 @@ use Rattle.std.proofs.Common.{◌≡◌, ℕ, List, Option, take, inl, inr, ◌�
 use Rattle.std.specs.Prelude.{IfSome, IsSomeAnd}
 use Rattle.cy_io.specs.Told.{FileMap, BothTold}
 use Rattle.cy_mean.specs.declared.ThinFunction.{ThinFunction}
-use Rattle.cyc_top.specs.Thin.{IsThin, thin_text}
+use Rattle.thin_source.specs.Thin.{IsThin, thin_text}
 use Rattle.cyc_top.specs.Build.{c_name, header_text, module_text, AreWritten, ArePartlyWritten, IsAsBeforeOrHeader, IsBuilt, IsPartlyBuilt, IsAtMostHeader}
 use Rattle.cyc_top.proofs.Reading.{limit, Spells-read}
 

@@ -1,16 +1,16 @@
 -- What a build leaves reads back.
-use Rattle.std.proofs.Common.{◌≡◌, ℕ, List, length, Option, Some, None, true, refl, sym, subst}
+use Rattle.std.proofs.Common.{◌≡◌, ℕ, List, length, Option, Some, None, true, sym, subst}
 use Rattle.std.specs.Prelude.{IsSomeAnd}
 use Rattle.c_state.specs.CReading.{c_reading}
 use Rattle.c_state.specs.declared.CFile.{CFile}
 use Rattle.cy_io.specs.Told.{FileMap, BothTold}
 use Rattle.cy_mean.specs.declared.ThinFunction.{ThinFunction}
-use Rattle.cyc_top.specs.Thin.{IsThin}
-use Rattle.cyc_top.specs.ThinC.{header_items, module_items}
-use Rattle.cyc_top.specs.Command.{IsIdentifier}
+use Rattle.thin_source.specs.Thin.{IsThin}
+use Rattle.thin_code.specs.ThinC.{header_items, module_items}
+use Rattle.thin_source.specs.Thin.{IsIdentifier}
 use Rattle.cyc_top.specs.Build.{header_name, c_name, header_text, module_text, AreWritten, Holds, IsBuilt, IsSoundlyBuilt}
-use Rattle.cyc_top.proofs.InForm.{thin_in_form}
-use Rattle.cyc_top.proofs.ThinSound.Theorem.{sound}
+use Rattle.thin_sound.proofs.InForm.{thin_in_form}
+use Rattle.thin_sound.proofs.ThinSound.Theorem.{sound}
 use Rattle.c_print.proofs.ReadsBack.{file_reads}
 
 held : (files : FileMap) (name text : List ℕ) (tree : CFile) → files name ≡ Some text → c_reading text tree.items true → Holds files name tree

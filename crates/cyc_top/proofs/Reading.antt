@@ -5,7 +5,7 @@ use Rattle.std.specs.Prelude.{MatchOption, All, Contains, IfSome, IsSomeAnd}
 use Rattle.std.proofs.lemmas.List.{take_all, length-take}
 use Rattle.cy_io.specs.Told.{FileMap}
 use Rattle.cy_mean.specs.declared.ThinFunction.{ThinFunction}
-use Rattle.cyc_top.specs.Thin.{IsThin, IsParameterName, joined, thin_text}
+use Rattle.thin_source.specs.Thin.{IsThin, IsParameterName, joined, thin_text}
 use Rattle.cyc_top.specs.Build.{Spells, Tells, IsUnthin}
 
 abbrev pub limit : ℕ

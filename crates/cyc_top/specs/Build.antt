@@ -7,8 +7,8 @@ use Rattle.cy_mean.specs.declared.ThinFunction.{ThinFunction}
 use Rattle.cy_mean.specs.Source.{thin_set}
 use Rattle.cy_mean.specs.Sound.{IsSound}
 use Rattle.c_print.specs.CText.{file_text}
-use Rattle.cyc_top.specs.Thin.{IsThin, thin_text}
-use Rattle.cyc_top.specs.ThinC.{header_items, module_items, thin_files}
+use Rattle.thin_source.specs.Thin.{IsThin, thin_text}
+use Rattle.thin_code.specs.ThinC.{header_items, module_items}
 
 -- the names of the two outputs of a module
 abbrev pub header_name : List ℕ

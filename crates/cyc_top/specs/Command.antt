@@ -1,12 +1,7 @@
 -- The words of the command line. The project's own.
-use Rattle.std.specs.Prelude.{◌≡◌, ◌≢◌, ℕ, ◌-◌, List, [], ◌∷◌, ◌++◌, length, take, slice_index, codes, IsTrue, All, ◌==◌}
+use Rattle.std.specs.Prelude.{◌≡◌, ◌≢◌, ℕ, ◌-◌, List, [], ◌∷◌, ◌++◌, length, take, slice_index, codes, ◌==◌}
 use Rattle.std.specs.List.{after_last}
-use Rattle.cyc_top.specs.Thin.{is_name_start, is_name_byte}
-
--- a letter of ASCII or `_`, and then letters, digits and `_`
-pub record IsIdentifier (name : List ℕ) : Type 0 where
-  pub starts : IsTrue (is_name_start (slice_index name 0))
-  pub bytes : All (λ byte. IsTrue (is_name_byte byte)) name
+use Rattle.thin_source.specs.Thin.{IsIdentifier}
 
 -- a word without its last four bytes
 abbrev pub stem_of : List ℕ → List ℕ

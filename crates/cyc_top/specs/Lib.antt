@@ -1,5 +1,3 @@
 pub mod Build
 pub mod Command
-pub mod Thin
-pub mod ThinC
 pub mod Statuses

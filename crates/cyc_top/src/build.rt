@@ -1,46 +1,20 @@
 ghost use Rattle.std.specs.Prelude.{◌≡◌, ◌≢◌, ◌⊎◌, ◌^◌, ◌<◌, ◌≤◌, ◌+◌, ◌↔◌, ◌++◌, ℕ, List, length, codes, Some, None, IfSome, IfOk, IsSomeAnd, MatchOption, All};
-ghost use Rattle.c_state.specs.CReading.{IsFileInForm};
 ghost use Rattle.cy_io.specs.Counts.{Rose};
 ghost use Rattle.cy_io.specs.Told.{BothTold, FileMap};
 ghost use Rattle.cy_mean.specs.declared.ThinFunction.{ThinFunction};
-ghost use Rattle.cy_mean.specs.Source.{thin_set};
-ghost use Rattle.cy_mean.specs.Sound.{IsSound};
-ghost use Rattle.cyc_top.specs.Thin.{IsThin, thin_text};
-ghost use Rattle.cyc_top.specs.ThinC.{thin_files};
-ghost use Rattle.cyc_top.specs.Command.{IsIdentifier};
+ghost use Rattle.thin_source.specs.Thin.{IsIdentifier, IsThin, thin_text};
 ghost use Rattle.cyc_top.specs.Build.{header_name, c_name, header_text, module_text, AreWritten, ArePartlyWritten, IsAsBeforeOrHeader, Tells, IsUnthin, IsBuilt, IsSoundlyBuilt, IsPartlyBuilt, IsAtMostHeader};
 ghost use Rattle.cyc_top.specs.Statuses.{OnVerdict, UnlessWriting};
 
 use crate::command::Build;
-use crate::compile::compile;
 use crate::status::Status;
-use crate::thin_source::parse_thin;
-use c_state::CFile;
 use c_print::print;
 use cy_io::{Files, OutOfMemory, ReadAnswer, WriteAnswer};
 use std::alloc::Global;
+use thin_sound::thin;
 
 // One more than a file of sources may have.
 const READ_LIMIT: usize = 4_194_305;
-
-/// The C trees of a thin file of the module `name`: the header and the module's own file.
-/// None where the bytes are no thin file; the error only where memory is wanting.
-pub fn thin(alloc: Global, name: &[u8], bytes: &[u8]) -> Result<Option<Vec<CFile>>, OutOfMemory>
-    ensures found { IfOk result (λ found. IfSome found (λ files. (thin : ThinFunction)
-        × IsThin thin × (bytes.now ≡ thin_text thin) × (files.items ≡ thin_files name.now thin))) }
-    ensures in_form { IfOk result (λ found. IfSome found
-        (λ files. IsIdentifier name.now → All IsFileInForm files.items)) }
-    ensures not_found { IfOk result (λ found. found ≡ None
-        → (thin : ThinFunction) → IsThin thin → bytes.now ≢ thin_text thin) }
-    ensures sound { IfOk result (λ found. IfSome found (λ files. (thin : ThinFunction)
-        × IsThin thin × (bytes.now ≡ thin_text thin)
-        × IsSound (thin_set name.now thin) files.items)) }
-{
-    match parse_thin(alloc, bytes)? {
-        Some(function) => Ok(Some(compile(alloc, name, &function)?)),
-        None => Ok(None),
-    }
-}
 
 // What a build writes: the header, and the module's file with its name.
 #[derive(Drop)]

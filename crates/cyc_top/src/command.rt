@@ -1,7 +1,8 @@
 ghost use Rattle.std.specs.Prelude.{◌≡◌, ◌≢◌, ◌↔◌, ◌==◌, ◌<◌, ℕ, List, [], ◌∷◌, ◌++◌, length, map, codes, string_bytes, slice_index, All, IsTrue, IfSome, IfNone};
 ghost use Rattle.std.specs.List.{after_last};
-ghost use Rattle.cyc_top.specs.Thin.{is_name_byte, is_name_start};
-ghost use Rattle.cyc_top.specs.Command.{IsIdentifier, IsSourceWord, IsBuild, module_of, stem_of};
+ghost use Rattle.thin_source.specs.Thin.{is_name_byte, is_name_start};
+ghost use Rattle.thin_source.specs.Thin.{IsIdentifier};
+ghost use Rattle.cyc_top.specs.Command.{IsSourceWord, IsBuild, module_of, stem_of};
 
 /// A command of the program.
 #[derive(Clone, Copy)]

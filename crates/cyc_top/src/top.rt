@@ -1,7 +1,7 @@
 ghost use Rattle.std.specs.Prelude.{◌≡◌, ◌≢◌, ◌⊎◌, ◌↔◌, ℕ, List, map, string_bytes, None, MatchOption};
 ghost use Rattle.cy_io.specs.Counts.{Rose};
 ghost use Rattle.cy_mean.specs.declared.ThinFunction.{ThinFunction};
-ghost use Rattle.cyc_top.specs.Thin.{IsThin, thin_text};
+ghost use Rattle.thin_source.specs.Thin.{IsThin, thin_text};
 ghost use Rattle.cyc_top.specs.Command.{IsBuild, module_of};
 ghost use Rattle.cyc_top.specs.Build.{Tells, IsUnthin, IsBuilt, IsSoundlyBuilt, IsPartlyBuilt, IsAtMostHeader};
 ghost use Rattle.cyc_top.specs.Statuses.{OnVerdict, UnlessWriting};

@@ -1,6 +1,6 @@
 use Rattle.std.proofs.Common.{◌≡◌, ℕ, List, ◌∙◌, sym, subst}
 use Rattle.cy_io.specs.Counts.{Rose}
-use Rattle.cyc_top.specs.Thin.{thin_text}
+use Rattle.thin_source.specs.Thin.{thin_text}
 use Rattle.cyc_top.specs.Command.{IsBuild, module_of}
 use Rattle.cyc_top.specs.Build.{IsBuilt, IsSoundlyBuilt, IsPartlyBuilt, IsAtMostHeader, Tells}
 use Rattle.cyc_top.proofs.top.cyc.Goals as goal
