@@ -9,7 +9,8 @@ ghost use Rattle.cyc_top.specs.Statuses.{OnVerdict, UnlessWriting};
 use crate::command::Build;
 use crate::status::Status;
 use c_print::print;
-use cy_io::{Files, OutOfMemory, ReadAnswer, WriteAnswer};
+use cy_base::OutOfMemory;
+use cy_io::{Files, ReadAnswer, WriteAnswer};
 use std::alloc::Global;
 use thin_sound::thin;
 

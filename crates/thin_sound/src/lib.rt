@@ -12,7 +12,7 @@ ghost use Rattle.thin_source.specs.Thin.{IsIdentifier, IsThin, thin_text};
 ghost use Rattle.thin_code.specs.ThinC.{thin_files};
 
 use c_state::CFile;
-use cy_io::OutOfMemory;
+use cy_base::OutOfMemory;
 pub use laws::thin_is_sound;
 use std::alloc::Global;
 use thin_code::compile;
