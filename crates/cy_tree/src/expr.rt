@@ -82,45 +82,16 @@ pub enum Expr {
     Dict(u32, Items<Pair>),
 }
 
-/// An operand of `|`, `^` or `&` behind its operator, and the operator's first byte.
-#[cycle(expressions)]
-#[derive(Drop)]
-pub struct Operand {
-    pub at: u32,
-    pub value: Expr,
-}
+/// An operand of `|`, `^` or `&`: the first byte of its operator, and the operand.
+pub type Operand = (u32, Expr);
 
-#[cycle(expressions)]
-#[derive(Drop)]
-pub struct ShiftOperand {
-    pub at: u32,
-    pub op: ShiftOp,
-    pub value: Expr,
-}
-
-#[cycle(expressions)]
-#[derive(Drop)]
-pub struct SumOperand {
-    pub at: u32,
-    pub op: SumOp,
-    pub value: Expr,
-}
-
-#[cycle(expressions)]
-#[derive(Drop)]
-pub struct TermOperand {
-    pub at: u32,
-    pub op: TermOp,
-    pub value: Expr,
-}
+/// An operand of a shift, a sum or a term: its operator, the operator's first byte, and the operand.
+pub type ShiftOperand = (ShiftOp, u32, Expr);
+pub type SumOperand = (SumOp, u32, Expr);
+pub type TermOperand = (TermOp, u32, Expr);
 
 /// A key and its value in a dictionary display.
-#[cycle(expressions)]
-#[derive(Drop)]
-pub struct Pair {
-    pub key: Expr,
-    pub value: Expr,
-}
+pub type Pair = (Expr, Expr);
 
 /// What stands behind an atom: `.NAME`, `(..)` or `[..]`, with the first byte of its dot or bracket.
 #[cycle(expressions)]

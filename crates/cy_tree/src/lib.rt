@@ -1,18 +1,19 @@
 //! The syntax trees of both kinds of files, their types, and the numbers of their nodes.
 #![tactic(auto)]
 
+mod content;
 mod decl;
 mod expr;
 mod stmt;
 mod types;
 
+pub use content::Content;
 pub use decl::{
     Access, CFunction, CKind, Cimport, Class, ClassBase, ClauseNode, Def, Header, Heading,
     ImportItem, Member, Param, PxdClass, PxdItem, PxdMember, Top, Variables,
 };
 pub use expr::{
-    Comparison, Expr, Index, Operand, Pair, Part, ShiftOp, ShiftOperand, SumOp, SumOperand, TermOp,
-    TermOperand, UnaryOp,
+    Comparison, Expr, Index, Operand, Pair, Part, ShiftOp, ShiftOperand, SumOp, SumOperand, TermOp, TermOperand, UnaryOp,
 };
 pub use stmt::{Arm, AugOp, Declared, Handler, Line, LockWord, Simple, Stmt, Suite};
 pub use types::{Dim, Ident, NumberWords, TypeName, TypeNode};

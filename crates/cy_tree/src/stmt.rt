@@ -65,7 +65,7 @@ pub struct Line {
 #[cycle(statements)]
 #[derive(Drop)]
 pub enum Stmt {
-    Line(Line),
+    Simples(Line),
     /// the arm of `if`, those of `elif`, and the suite of `else`
     IfNode(u32, Items<Arm>, Option<Boxed<Suite>>),
     WhileNode(u32, Expr, Boxed<Suite>, Option<Boxed<Suite>>),
@@ -80,7 +80,7 @@ pub enum Stmt {
 #[cycle(statements)]
 #[derive(Drop)]
 pub enum Suite {
-    Line(Line),
+    Inline(Line),
     Block(Items<Stmt>),
 }
 
