@@ -87,7 +87,9 @@ pub type Operand = (u32, Expr);
 
 /// An operand of a shift, a sum or a term: its operator, the operator's first byte, and the operand.
 pub type ShiftOperand = (ShiftOp, u32, Expr);
+
 pub type SumOperand = (SumOp, u32, Expr);
+
 pub type TermOperand = (TermOp, u32, Expr);
 
 /// A key and its value in a dictionary display.

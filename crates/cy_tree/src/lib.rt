@@ -4,6 +4,7 @@
 mod content;
 mod decl;
 mod expr;
+mod node;
 mod stmt;
 mod types;
 
@@ -13,7 +14,9 @@ pub use decl::{
     ImportItem, Member, Param, PxdClass, PxdItem, PxdMember, Top, Variables,
 };
 pub use expr::{
-    Comparison, Expr, Index, Operand, Pair, Part, ShiftOp, ShiftOperand, SumOp, SumOperand, TermOp, TermOperand, UnaryOp,
+    Comparison, Expr, Index, Operand, Pair, Part, ShiftOp, ShiftOperand, SumOp, SumOperand, TermOp,
+    TermOperand, UnaryOp,
 };
+pub use node::Node;
 pub use stmt::{Arm, AugOp, Declared, Handler, Line, LockWord, Simple, Stmt, Suite};
 pub use types::{Dim, Ident, NumberWords, TypeName, TypeNode};
