@@ -1,0 +1,3 @@
+mod Floor
+mod Wide
+mod Wraps

@@ -1,0 +1,48 @@
+ghost use Rattle.std.specs.Prelude.{◌≡◌, ◌<◌, ◌↔◌, IsErrOf};
+ghost use Rattle.cy_num.specs.Arithmetic.{IsBadCount, arith_result, shift, shifted};
+ghost use Rattle.cy_num.specs.Types.{IsValue, bits};
+
+use crate::division::NumFault;
+use crate::types::{Arith, CNum, width};
+use crate::wrapping::wrap;
+
+/// The result of an operation on two values of `t`, as a value of `t`.
+pub fn arith(op: Arith, t: CNum, a: i128, b: i128) -> i128
+    requires a_value { IsValue t a }
+    requires b_value { IsValue t b }
+    ensures same { result ≡ arith_result op t a b }
+    ensures value { IsValue t result }
+{
+    match op {
+        Arith::Add => wrap(t, a + b),
+        Arith::Sub => wrap(t, a - b),
+        // 2^128 is a multiple of each 2^bits.
+        Arith::Mul => wrap(t, a.wrapping_mul(b)),
+        Arith::And => wrap(t, a & b),
+        Arith::Or => wrap(t, a | b),
+        Arith::Xor => wrap(t, a ^ b),
+    }
+}
+
+/// `a << count` where `left`, and else `a >> count`, of a value of `t` (ISO/IEC 9899:2011 6.5.7).
+pub fn shift(left: bool, t: CNum, a: i128, count: i128) -> Result<i128, NumFault>
+    requires { IsValue t a }
+    ensures same { result ≡ shift left t a count }
+    ensures bad_count { IsErrOf result NumFault.ShiftCount ↔ IsBadCount t count }
+{
+    if count < 0 || count >= width(t) as i128 {
+        return Err(NumFault::ShiftCount);
+    }
+    Ok(shifted(left, t, a, count as u32))
+}
+
+fn shifted(left: bool, t: CNum, a: i128, count: u32) -> i128
+    requires { count < bits t }
+    ensures { result ≡ shifted left t a count }
+{
+    if left {
+        wrap(t, a << count)
+    } else {
+        a >> count
+    }
+}

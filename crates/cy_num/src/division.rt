@@ -1,0 +1,72 @@
+ghost use Rattle.std.specs.Prelude.{◌≡◌, ◌≢◌, ◌↔◌, ◌<ℤ◌, pos, neg_ℤ, FitsSigned, IsErrOf, IfOk, Err};
+ghost use Rattle.std.specs.Int.{w128};
+ghost use Rattle.cy_num.specs.Division.{IsTooLarge, floor_div, floor_mod, floor_quotient, floor_remainder};
+ghost use Rattle.cy_num.specs.Types.{IsValue};
+
+use crate::types::{CNum, least};
+
+/// Why a division or a shift gives no number. The project's own.
+#[derive(Clone, Copy, Debug, PartialEq, Eq)]
+pub enum NumFault {
+    /// A division by 0.
+    ZeroDivisor,
+    /// The result is above the greatest value.
+    TooLarge,
+    /// A shift by less than 0, or by the width or more.
+    ShiftCount,
+}
+
+/// `a // b` in the type `t`, rounded down (Python language reference 6.7), of two values of `t`.
+pub fn floor_div(t: CNum, a: i128, b: i128) -> Result<i128, NumFault>
+    requires a_value { IsValue t a }
+    requires b_value { IsValue t b }
+    ensures value { result ≡ floor_div t a b }
+    ensures zero { IsErrOf result NumFault.ZeroDivisor ↔ (b ≡ pos 0) }
+    ensures too_large { IsErrOf result NumFault.TooLarge ↔ IsTooLarge t a b }
+{
+    if b == 0 {
+        return Err(NumFault::ZeroDivisor);
+    }
+    if b == -1 && a == least(t) {
+        return Err(NumFault::TooLarge);
+    }
+    Ok(quotient(a, b))
+}
+
+/// `a % b`, with the sign of `b` (Python language reference 6.7), of two values of `t`.
+pub fn floor_mod(t: CNum, a: i128, b: i128) -> Result<i128, NumFault>
+    requires a_value { IsValue t a }
+    requires b_value { IsValue t b }
+    ensures value { result ≡ floor_mod a b }
+    ensures zero { IsErrOf result NumFault.ZeroDivisor ↔ (b ≡ pos 0) }
+    ensures not_too_large { result ≢ Err NumFault.TooLarge }
+{
+    if b == 0 {
+        return Err(NumFault::ZeroDivisor);
+    }
+    Ok(remainder(a, b))
+}
+
+fn quotient(a: i128, b: i128) -> i128
+    requires not_zero { b ≢ pos 0 }
+    requires negated { FitsSigned w128 (neg_ℤ a) × FitsSigned w128 (neg_ℤ b) }
+    ensures { result ≡ floor_quotient a b }
+{
+    if b > 0 {
+        a.div_euclid(b)
+    } else {
+        (-a).div_euclid(-b)
+    }
+}
+
+fn remainder(a: i128, b: i128) -> i128
+    requires not_zero { b ≢ pos 0 }
+    requires negated { FitsSigned w128 (neg_ℤ a) × FitsSigned w128 (neg_ℤ b) }
+    ensures { result ≡ floor_remainder a b }
+{
+    if b > 0 {
+        a.rem_euclid(b)
+    } else {
+        -(-a).rem_euclid(-b)
+    }
+}

@@ -1,0 +1,35 @@
+ghost use Rattle.std.specs.Prelude.{◌≡◌, ◌≢◌, ℤ, pos};
+ghost use Rattle.cy_num.specs.Division.{IsFloorDivision, floor_quotient, floor_remainder};
+ghost use Rattle.cy_num.specs.Types.{IsValue, common};
+ghost use Rattle.cy_num.specs.Wrapping.{IsWrapped, wrap};
+ghost use Rattle.cy_num.specs.declared.types.CNum.{CNum};
+
+/// The usual arithmetic conversions don't depend on the order of the operands. A law; it does nothing.
+pub fn common_does_not_depend_on_order()
+    ensures { (a b : CNum) → common a b ≡ common b a }
+{}
+
+/// What wraps is a value of the type, and differs by a multiple of 2^bits. A law; it does nothing.
+pub fn wrap_is_congruent()
+    ensures { (t : CNum) (v : ℤ) → IsWrapped t v (wrap t v) }
+{}
+
+/// No other value of the type differs by a multiple of 2^bits. A law; it does nothing.
+pub fn wrap_is_unique()
+    ensures { (t : CNum) (v w : ℤ) → IsWrapped t v w → w ≡ wrap t v }
+{}
+
+/// A value of the type stays. A law; it does nothing.
+pub fn wrap_is_idempotent()
+    ensures { (t : CNum) (v : ℤ) → IsValue t v → wrap t v ≡ v }
+{}
+
+/// Quotient and remainder give the number back, and the remainder has the sign rule. A law; it does nothing.
+pub fn floor_division_splits()
+    ensures { (a b : ℤ) → b ≢ pos 0 → IsFloorDivision a b (floor_quotient a b) (floor_remainder a b) }
+{}
+
+/// No other two numbers do. A law; it does nothing.
+pub fn floor_division_is_unique()
+    ensures { (a b q r : ℤ) → IsFloorDivision a b q r → (q ≡ floor_quotient a b) × (r ≡ floor_remainder a b) }
+{}
