@@ -1,10 +1,14 @@
 -- Floored quotients.
-use Rattle.std.proofs.Common.{arith, ◌≡◌, sym, ap, subst, ◌∙◌, inl, inr, ℕ, suc, ◌+◌, ◌-◌, ◌*◌, ◌<◌, ℤ, pos, negsuc, neg_ℤ, ◌+ℤ◌, ◌-ℤ◌, ◌*ℤ◌, ◌≤ℤ◌, ◌<ℤ◌, unsigned_abs}
+use Rattle.std.proofs.Common.{false, ◌≢◌, ap₂, Bool, if◌then◌else◌, Result, Ok, Err, arith, ◌≡◌, sym, ap, subst, ◌∙◌, inl, inr, ℕ, suc, ◌+◌, ◌-◌, ◌*◌, ◌<◌, ℤ, pos, negsuc, neg_ℤ, ◌+ℤ◌, ◌-ℤ◌, ◌*ℤ◌, ◌≤ℤ◌, ◌<ℤ◌, unsigned_abs}
 use Rattle.std.proofs.lemmas.Int.{ints}
 use Rattle.std.proofs.lemmas.Nat.{div-add-mod', mod_below, div-mul-add}
 use Rattle.std.proofs.Math.IntN.{*ℤ-negsuc}
 use Rattle.std.specs.Int.{int_rem_euclid}
-use Rattle.cy_num.specs.Division.{floored, floor_quotient, floor_remainder, HasSignOf, IsFloorDivision}
+use Rattle.std.specs.Ordering.{int_eq}
+use Rattle.cy_num.specs.declared.types.CNum.{CNum}
+use Rattle.cy_num.specs.declared.division.NumFault.{NumFault}
+use Rattle.cy_num.specs.declared.division.NumFault.TheVariants.{ZeroDivisor, TooLarge}
+use Rattle.cy_num.specs.Division.{floor_div, is_too_large, floored, floor_quotient, floor_remainder, HasSignOf, IsFloorDivision}
 
 -- what a floored quotient leaves is at least 0 and below the divisor
 pub floored_least : (a : ℤ) (n : ℕ) → 0 < n → pos 0 ≤ℤ (a -ℤ floored a n *ℤ pos n)
@@ -66,3 +70,13 @@ negated_remainder a (negsuc n) h =
     let split = int_rem_euclid-floored (neg_ℤ a) (suc n) (omega arith) in
     let turned = *ℤ-negsuc (floored (neg_ℤ a) (suc n)) n in
     omega (arith, ints)
+
+-- the test of 0, and where a division has a quotient
+not_zero : (b : ℤ) → b ≢ pos 0 → int_eq b (pos 0) ≡ false
+not_zero b h = grind (arith, ints)
+
+pub floor_div-Ok : (t : CNum) (a b : ℤ) → b ≢ pos 0 → is_too_large t a b ≡ false → floor_div t a b ≡ Ok (floor_quotient a b)
+floor_div-Ok t a b h e =
+    let choose : Bool → Bool → Result ℤ NumFault =
+        λ zero_b large. if zero_b then Err ZeroDivisor else (if large then Err TooLarge else Ok (floor_quotient a b)) in
+    ap₂ choose (not_zero b h) e

@@ -1,3 +1,5 @@
 mod Floor
+mod InType
+mod TurnLemmas
 mod Wide
 mod Wraps

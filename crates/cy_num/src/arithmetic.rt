@@ -1,4 +1,4 @@
-ghost use Rattle.std.specs.Prelude.{◌≡◌, ◌<◌, ◌↔◌, IsErrOf};
+ghost use Rattle.std.specs.Prelude.{◌≡◌, ◌<◌, ◌↔◌, IsErrOf, IfOk};
 ghost use Rattle.cy_num.specs.Arithmetic.{IsBadCount, arith_result, shift, shifted};
 ghost use Rattle.cy_num.specs.Types.{IsValue, bits};
 
@@ -28,6 +28,7 @@ pub fn arith(op: Arith, t: CNum, a: i128, b: i128) -> i128
 pub fn shift(left: bool, t: CNum, a: i128, count: i128) -> Result<i128, NumFault>
     requires { IsValue t a }
     ensures same { result ≡ shift left t a count }
+    ensures value { IfOk result (IsValue t) }
     ensures bad_count { IsErrOf result NumFault.ShiftCount ↔ IsBadCount t count }
 {
     if count < 0 || count >= width(t) as i128 {
@@ -37,8 +38,10 @@ pub fn shift(left: bool, t: CNum, a: i128, count: i128) -> Result<i128, NumFault
 }
 
 fn shifted(left: bool, t: CNum, a: i128, count: u32) -> i128
-    requires { count < bits t }
-    ensures { result ≡ shifted left t a count }
+    requires bounded { count < bits t }
+    requires a_value { IsValue t a }
+    ensures same { result ≡ shifted left t a count }
+    ensures value { IsValue t result }
 {
     if left {
         wrap(t, a << count)

@@ -1,6 +1,6 @@
-ghost use Rattle.std.specs.Prelude.{◌≡◌, ◌≢◌, ◌↔◌, ◌<ℤ◌, pos, neg_ℤ, FitsSigned, IsErrOf, IfOk, Err};
+ghost use Rattle.std.specs.Prelude.{◌≡◌, ◌≢◌, ◌↔◌, ◌<ℤ◌, pos, neg_ℤ, FitsSigned, IsErrOf, IsTrue, IfOk, Err};
 ghost use Rattle.std.specs.Int.{w128};
-ghost use Rattle.cy_num.specs.Division.{IsTooLarge, floor_div, floor_mod, floor_quotient, floor_remainder};
+ghost use Rattle.cy_num.specs.Division.{IsTooLarge, floor_div, floor_mod, floor_quotient, floor_remainder, is_too_large};
 ghost use Rattle.cy_num.specs.Types.{IsValue};
 
 use crate::types::{CNum, least};
@@ -20,14 +20,15 @@ pub enum NumFault {
 pub fn floor_div(t: CNum, a: i128, b: i128) -> Result<i128, NumFault>
     requires a_value { IsValue t a }
     requires b_value { IsValue t b }
-    ensures value { result ≡ floor_div t a b }
+    ensures same { result ≡ floor_div t a b }
+    ensures value { IfOk result (IsValue t) }
     ensures zero { IsErrOf result NumFault.ZeroDivisor ↔ (b ≡ pos 0) }
     ensures too_large { IsErrOf result NumFault.TooLarge ↔ IsTooLarge t a b }
 {
     if b == 0 {
         return Err(NumFault::ZeroDivisor);
     }
-    if b == -1 && a == least(t) {
+    if is_too_large(t, a, b) {
         return Err(NumFault::TooLarge);
     }
     Ok(quotient(a, b))
@@ -37,7 +38,8 @@ pub fn floor_div(t: CNum, a: i128, b: i128) -> Result<i128, NumFault>
 pub fn floor_mod(t: CNum, a: i128, b: i128) -> Result<i128, NumFault>
     requires a_value { IsValue t a }
     requires b_value { IsValue t b }
-    ensures value { result ≡ floor_mod a b }
+    ensures same { result ≡ floor_mod a b }
+    ensures value { IfOk result (IsValue t) }
     ensures zero { IsErrOf result NumFault.ZeroDivisor ↔ (b ≡ pos 0) }
     ensures not_too_large { result ≢ Err NumFault.TooLarge }
 {
@@ -45,6 +47,14 @@ pub fn floor_mod(t: CNum, a: i128, b: i128) -> Result<i128, NumFault>
         return Err(NumFault::ZeroDivisor);
     }
     Ok(remainder(a, b))
+}
+
+fn is_too_large(t: CNum, a: i128, b: i128) -> bool
+    requires { IsValue t b }
+    ensures same { result ≡ is_too_large t a b }
+    ensures meaning { IsTrue result ↔ IsTooLarge t a b }
+{
+    b == -1 && a == least(t)
 }
 
 fn quotient(a: i128, b: i128) -> i128

@@ -1,5 +1,6 @@
-ghost use Rattle.std.specs.Prelude.{◌≡◌, ◌≢◌, ℤ, pos};
+ghost use Rattle.std.specs.Prelude.{◌≡◌, ◌≢◌, ◌<◌, ◌↔◌, ℕ, length, slice_get, Some, ℤ, pos};
 ghost use Rattle.cy_num.specs.Division.{IsFloorDivision, floor_quotient, floor_remainder};
+ghost use Rattle.cy_num.specs.Turns.{LiesBefore, range_turns, turn};
 ghost use Rattle.cy_num.specs.Types.{IsValue, common};
 ghost use Rattle.cy_num.specs.Wrapping.{IsWrapped, wrap};
 ghost use Rattle.cy_num.specs.declared.types.CNum.{CNum};
@@ -32,4 +33,16 @@ pub fn floor_division_splits()
 /// No other two numbers do. A law; it does nothing.
 pub fn floor_division_is_unique()
     ensures { (a b q r : ℤ) → IsFloorDivision a b q r → (q ≡ floor_quotient a b) × (r ≡ floor_remainder a b) }
+{}
+
+/// The turn of number k is there where it lies before the end. A law; it does nothing.
+pub fn range_turns_lie_before_the_end()
+    ensures { (a b c : ℤ) (k : ℕ) → c ≢ pos 0
+        → (k < length (range_turns a b c)) ↔ LiesBefore b c (turn a c k) }
+{}
+
+/// The turn of number k is the start and k steps. A law; it does nothing.
+pub fn range_turns_go_by_the_step()
+    ensures { (a b c : ℤ) (k : ℕ) → k < length (range_turns a b c)
+        → slice_get (range_turns a b c) k ≡ Some (turn a c k) }
 {}
