@@ -76,7 +76,8 @@ not_zero : (b : ℤ) → b ≢ pos 0 → int_eq b (pos 0) ≡ false
 not_zero b h = grind (arith, ints)
 
 pub floor_div-Ok : (t : CNum) (a b : ℤ) → b ≢ pos 0 → is_too_large t a b ≡ false → floor_div t a b ≡ Ok (floor_quotient a b)
+unfolding floor_div
 floor_div-Ok t a b h e =
     let choose : Bool → Bool → Result ℤ NumFault =
-        λ zero_b large. if zero_b then Err ZeroDivisor else (if large then Err TooLarge else Ok (floor_quotient a b)) in
+    λ zero_b large. if zero_b then Err ZeroDivisor else (if large then Err TooLarge else Ok (floor_quotient a b)) in
     ap₂ choose (not_zero b h) e

@@ -15,7 +15,7 @@ below_ceil x y k h p =
     let whole = div-add-mod' x y in
     let most = le-div k x y h (omega arith) in
     elim (cases_lt k (x / y)) [
-        inl less ↦ omega arith
+      | inl less ↦ omega arith
       | inr more ↦ let last : k ≡ x / y = omega arith in let same : k * y ≡ x / y * y = ap (λ z. z * y) last in omega arith
     ]
 
@@ -23,12 +23,12 @@ ceil_below : (x y k : ℕ) → 0 < y → k < div_ceil x y → k * y < x
 ceil_below x y k h p =
     let whole = div-add-mod' x y in
     elim (cases_lt k (x / y)) [
-        inl less ↦ let product : (k + 1) * y ≤ x / y * y = mul-le (k + 1) y (x / y) y (omega arith) (omega arith) in
-            let split = one_more k y in omega arith
+      | inl less ↦ let product : (k + 1) * y ≤ x / y * y = mul-le (k + 1) y (x / y) y (omega arith) (omega arith) in
+          let split = one_more k y in omega arith
       | inr more ↦ let last : k ≡ x / y = omega arith in let same : k * y ≡ x / y * y = ap (λ z. z * y) last in omega arith
     ] where
-  one_more : (m n : ℕ) → (m + 1) * n ≡ m * n + n
-  one_more m n = grind arith
+      one_more : (m n : ℕ) → (m + 1) * n ≡ m * n + n
+      one_more m n = grind arith
 
 -- a step upwards and one downwards
 gap_above : (a b : ℤ) (n : ℕ) → (n < int_gap a b) ↔ ((a +ℤ pos n) <ℤ b)
@@ -45,18 +45,20 @@ gap_below (negsuc a) (negsuc b) n = (λ h. omega (arith, ints), λ h. omega (ari
 
 turn_count_before : (a b c : ℤ) (k : ℕ) → c ≢ pos 0 → (k < turn_count a b c) ↔ LiesBefore b c (turn a c k)
 turn_count_before a b (pos zero) k h = absurd (h refl)
-turn_count_before a b (pos (suc c)) k h =
-    (λ p. (gap_above a b (k * suc c)).0 (ceil_below (int_gap a b) (suc c) k (omega arith) p),
-     λ p. below_ceil (int_gap a b) (suc c) k (omega arith) ((gap_above a b (k * suc c)).1 p))
+turn_count_before a b (pos (suc c)) k h = (
+  λ p. (gap_above a b (k * suc c)).0 (ceil_below (int_gap a b) (suc c) k (omega arith) p),
+  λ p. below_ceil (int_gap a b) (suc c) k (omega arith) ((gap_above a b (k * suc c)).1 p),
+)
 turn_count_before a b (negsuc c) k h =
-    let same : turn a (negsuc c) k ≡ a +ℤ neg_ℤ (pos (k * suc c)) = ap (λ z. a +ℤ z) (pos-*ℤ-negsuc k c) in
-    (λ p. subst (λ z. b <ℤ z) (sym same) ((gap_below a b (k * suc c)).0 (ceil_below (int_gap b a) (suc c) k (omega arith) p)),
-     λ p. below_ceil (int_gap b a) (suc c) k (omega arith) ((gap_below a b (k * suc c)).1 (subst (λ z. b <ℤ z) same p)))
+    let same : turn a (negsuc c) k ≡ a +ℤ neg_ℤ (pos (k * suc c)) = ap (λ z. a +ℤ z) (pos-*ℤ-negsuc k c) in (
+      λ p. subst (λ z. b <ℤ z) (sym same) ((gap_below a b (k * suc c)).0 (ceil_below (int_gap b a) (suc c) k (omega arith) p)),
+      λ p. below_ceil (int_gap b a) (suc c) k (omega arith) ((gap_below a b (k * suc c)).1 (subst (λ z. b <ℤ z) same p)),
+    )
 
 pub range_turns-before : (a b c : ℤ) (k : ℕ) → c ≢ pos 0 → (k < length (range_turns a b c)) ↔ LiesBefore b c (turn a c k)
 range_turns-before a b c k h =
     subst (λ n. (k < n) ↔ LiesBefore b c (turn a c k)) (sym (length-map-range_with_len (turn a c) 0 (turn_count a b c)))
-      (turn_count_before a b c k h)
+    (turn_count_before a b c k h)
 
 pub range_turns-at : (a b c : ℤ) (k : ℕ) → k < length (range_turns a b c) → slice_get (range_turns a b c) k ≡ Some (turn a c k)
 range_turns-at a b c k h =

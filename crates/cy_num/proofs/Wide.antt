@@ -88,6 +88,7 @@ low_bits U64 n h = omega arith
 
 -- the bits of a number in a type are its low bits among the 128
 pub pattern-of_z : (t : CNum) (a : ℤ) → FitsSigned w128 a → pattern t a ≡ of_z w128 a % 2 ^ bits t
+unfolding pattern
 pattern-of_z t (pos n) h =
     let whole = div-add-mod' n (2 ^ bits t) in
     ap unsigned_abs (rest whole) where

@@ -2,7 +2,7 @@
 use Rattle.std.proofs.Common.{arith, ◌≡◌, sym, ap, subst, ◌∙◌, ◌^◌, ℤ, pos, ◌+ℤ◌, ◌-ℤ◌, ◌*ℤ◌, ◌≤ℤ◌, ◌<ℤ◌}
 use Rattle.std.proofs.lemmas.Int.{ints}
 use Rattle.std.proofs.lemmas.Nat.{pow_pos}
-use Rattle.std.proofs.Math.IntN.{suc_ℤ, suc_ℤ-*ℤ}
+use Rattle.std.proofs.Math.IntN.{suc_ℤ, suc_ℤ-*ℤ, zero-*ℤ}
 use Rattle.std.specs.Int.{int_rem_euclid}
 use Rattle.cy_num.specs.declared.types.CNum.{CNum}
 use Rattle.cy_num.specs.declared.types.CNum.TheVariants.{I8, U8, I16, U16, I32, U32, I64, U64}
@@ -67,6 +67,7 @@ rest_turns I64 r low high h = (omega (arith, ints), omega (arith, ints))
 rest_turns U64 r low high h = (omega (arith, ints), omega (arith, ints))
 
 pub wrap-IsWrapped : (t : CNum) (v : ℤ) → IsWrapped t v (wrap t v)
+unfolding wrap
 wrap-IsWrapped t v =
     let below = pow_pos (bits t) in
     record {
@@ -118,3 +119,10 @@ turned-wrap t v r e h =
     let split = e ∙ int_rem_euclid-floored v (2 ^ bits t) (pow_pos (bits t)) in
     wrap-from t v (r -ℤ modulus t) (suc_ℤ (floored v (2 ^ bits t))) (turned-IsValue t v r e h)
     (let one_more = suc_ℤ-*ℤ (floored v (2 ^ bits t)) (modulus t) in omega (arith, ints))
+
+-- a value stays
+pub wrap-IsValue : (t : CNum) (v : ℤ) → IsValue t v → wrap t v ≡ v
+wrap-IsValue t v h = let none = zero-*ℤ (modulus t) in sym (wrap-from t v v (pos 0) h (omega (arith, ints)))
+
+pub wrap-wrap : (t : CNum) (v : ℤ) → wrap t (wrap t v) ≡ wrap t v
+wrap-wrap t v = wrap-IsValue t (wrap t v) (wrap-IsWrapped t v).value

@@ -11,7 +11,7 @@ use Rattle.cy_num.specs.Division.{floored, floor_remainder}
 use Rattle.cy_num.specs.Wrapping.{modulus, wrap}
 
 -- the bits of a value in two's complement, as a number from 0 to 2^bits - 1 (6.2.6.2)
-abbrev pub pattern : CNum → ℤ → ℕ
+unfoldable pub pattern : CNum → ℤ → ℕ
 pattern t v = unsigned_abs (floor_remainder v (modulus t))
 
 -- the value of the type that has these bits
@@ -40,5 +40,5 @@ shifted true t a n = wrap t (a *ℤ pos (2 ^ n))
 shifted false t a n = floored a (2 ^ n)
 
 -- `a << count` where left is true, and else `a >> count`
-abbrev pub shift : Bool → CNum → ℤ → ℤ → Result ℤ NumFault
+unfoldable pub shift : Bool → CNum → ℤ → ℤ → Result ℤ NumFault
 shift left t a count = if is_bad_count t count then Err ShiftCount else Ok (shifted left t a (unsigned_abs count))

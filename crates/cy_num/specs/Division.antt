@@ -38,10 +38,10 @@ abbrev pub is_too_large : CNum → ℤ → ℤ → Bool
 is_too_large t a b = is_signed t && int_eq a (least t) && int_eq b (negsuc 0)
 
 -- `a // b` in the type t
-abbrev pub floor_div : CNum → ℤ → ℤ → Result ℤ NumFault
+unfoldable pub floor_div : CNum → ℤ → ℤ → Result ℤ NumFault
 floor_div t a b = if int_eq b (pos 0) then Err ZeroDivisor
     else (if is_too_large t a b then Err TooLarge else Ok (floor_quotient a b))
 
 -- `a % b`
-abbrev pub floor_mod : ℤ → ℤ → Result ℤ NumFault
+unfoldable pub floor_mod : ℤ → ℤ → Result ℤ NumFault
 floor_mod a b = if int_eq b (pos 0) then Err ZeroDivisor else Ok (floor_remainder a b)

@@ -13,7 +13,7 @@ abbrev pub IsCongruent : CNum → ℤ → ℤ → Type 0
 IsCongruent t v w = (k : ℤ) × (v ≡ w +ℤ k *ℤ modulus t)
 
 -- the value of t whose difference from v is a multiple of 2^bits: as far above the least value as v is, modulo 2^bits
-abbrev pub wrap : CNum → ℤ → ℤ
+unfoldable pub wrap : CNum → ℤ → ℤ
 wrap t v = least t +ℤ floor_remainder (v -ℤ least t) (modulus t)
 
 -- w is a value of t, and its difference from v is a multiple of 2^bits

@@ -25,6 +25,7 @@ pub fn arith(op: Arith, t: CNum, a: i128, b: i128) -> i128
 }
 
 /// `a << count` where `left`, and else `a >> count`, of a value of `t` (ISO/IEC 9899:2011 6.5.7).
+#[tactic(auto, unfolding(crate::specs::Arithmetic::shift))]
 pub fn shift(left: bool, t: CNum, a: i128, count: i128) -> Result<i128, NumFault>
     requires { IsValue t a }
     ensures same { result ≡ shift left t a count }

@@ -17,6 +17,7 @@ pub enum NumFault {
 }
 
 /// `a // b` in the type `t`, rounded down (Python language reference 6.7), of two values of `t`.
+#[tactic(auto, unfolding(crate::specs::Division::floor_div))]
 pub fn floor_div(t: CNum, a: i128, b: i128) -> Result<i128, NumFault>
     requires a_value { IsValue t a }
     requires b_value { IsValue t b }
@@ -35,6 +36,7 @@ pub fn floor_div(t: CNum, a: i128, b: i128) -> Result<i128, NumFault>
 }
 
 /// `a % b`, with the sign of `b` (Python language reference 6.7), of two values of `t`.
+#[tactic(auto, unfolding(crate::specs::Division::floor_mod))]
 pub fn floor_mod(t: CNum, a: i128, b: i128) -> Result<i128, NumFault>
     requires a_value { IsValue t a }
     requires b_value { IsValue t b }

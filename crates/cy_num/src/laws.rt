@@ -21,8 +21,13 @@ pub fn wrap_is_unique()
 {}
 
 /// A value of the type stays. A law; it does nothing.
-pub fn wrap_is_idempotent()
+pub fn wrap_keeps_values()
     ensures { (t : CNum) (v : ℤ) → IsValue t v → wrap t v ≡ v }
+{}
+
+/// To wrap twice is to wrap once. A law; it does nothing.
+pub fn wrap_is_idempotent()
+    ensures { (t : CNum) (v : ℤ) → wrap t (wrap t v) ≡ wrap t v }
 {}
 
 /// Quotient and remainder give the number back, and the remainder has the sign rule. A law; it does nothing.

@@ -16,17 +16,17 @@ quotient_is c =
 not_large : (c : goal.After-quotient) → ¬ (IsTooLarge c.args.t c.args.a c.args.b)
 not_large c =
     λ p. let both : false ≡ true = c.if-is_too_large.ensures.meaning.1
-            (p.0, to_z-of_z w128 c.args.a c.ranges.a ∙ p.1, to_z-of_z w128 c.args.b c.ranges.b ∙ p.2) in
-        cc
+    (p.0, to_z-of_z w128 c.args.a c.ranges.a ∙ p.1, to_z-of_z w128 c.args.b c.ranges.b ∙ p.2) in
+    cc
 
 pub returns-clause-same : goal.returns-clause-same
 returns-clause-same c =
     ap Ok (quotient_is c)
     ∙ sym (floor_div-Ok c.args.t c.args.a c.args.b (λ e. c.if-b-eq0.false (ap (of_z w128) e))
-        (ap₂ (is_too_large c.args.t) (sym (to_z-of_z w128 c.args.a c.ranges.a)) (sym (to_z-of_z w128 c.args.b c.ranges.b))
-          ∙ sym c.if-is_too_large.ensures.same))
+    (ap₂ (is_too_large c.args.t) (sym (to_z-of_z w128 c.args.a c.ranges.a)) (sym (to_z-of_z w128 c.args.b c.ranges.b))
+    ∙ sym c.if-is_too_large.ensures.same))
 
 pub returns-clause-value : goal.returns-clause-value
 returns-clause-value c =
     subst (IsValue c.args.t) (sym (quotient_is c))
-      (quotient-IsValue c.args.t c.args.a c.args.b c.requires.a_value c.requires.b_value (not_large c))
+    (quotient-IsValue c.args.t c.args.a c.args.b c.requires.a_value c.requires.b_value (not_large c))

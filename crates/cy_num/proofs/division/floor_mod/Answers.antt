@@ -15,4 +15,4 @@ remainder_is c =
 pub returns-clause-value : goal.returns-clause-value
 returns-clause-value c =
     subst (IsValue c.args.t) (sym (remainder_is c))
-      (remainder-IsValue c.args.t c.args.a c.args.b c.requires.b_value (λ e. c.if-b-eq0.false (ap (of_z w128) e)))
+    (remainder-IsValue c.args.t c.args.a c.args.b c.requires.b_value (λ e. c.if-b-eq0.false (ap (of_z w128) e)))
