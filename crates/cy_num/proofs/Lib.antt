@@ -1,3 +1,4 @@
+mod Bits
 mod Floor
 mod InType
 mod TurnLemmas

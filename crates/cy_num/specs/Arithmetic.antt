@@ -1,4 +1,5 @@
--- The operations of C numbers in one type (ISO/IEC 9899:2011 6.5.5 to 6.5.7, 6.5.10 to 6.5.12), where results wrap.
+-- The operations of C numbers in one type (ISO/IEC 9899:2011 6.5.5 to 6.5.7, 6.5.10 to 6.5.12). That results wrap in
+-- signed types too, and which counts a shift refuses, is the project's own.
 use Rattle.std.specs.Prelude.{ℕ, ◌^◌, Bool, true, false, ◌||◌, if◌then◌else◌, Result, Ok, Err, ℤ, pos, ◌+ℤ◌, ◌-ℤ◌, ◌*ℤ◌, ◌≤ℤ◌, ◌<ℤ◌, ◌⊎◌, unsigned_abs, bit_and, bit_or, bit_xor}
 use Rattle.std.specs.Int.RustNames.{int_lt, int_le}
 use Rattle.cy_num.specs.declared.types.CNum.{CNum}

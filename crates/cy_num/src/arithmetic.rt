@@ -24,7 +24,8 @@ pub fn arith(op: Arith, t: CNum, a: i128, b: i128) -> i128
     }
 }
 
-/// `a << count` where `left`, and else `a >> count`, of a value of `t` (ISO/IEC 9899:2011 6.5.7).
+/// `a << count`, which wraps, where `left`, and else `a >> count`, which floors, of a value of `t`
+/// (ISO/IEC 9899:2011 6.5.7): `ShiftCount` where the count is below 0 or not below the width.
 #[tactic(auto, unfolding(crate::specs::Arithmetic::shift))]
 pub fn shift(left: bool, t: CNum, a: i128, count: i128) -> Result<i128, NumFault>
     requires { IsValue t a }

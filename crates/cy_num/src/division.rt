@@ -16,7 +16,8 @@ pub enum NumFault {
     ShiftCount,
 }
 
-/// `a // b` in the type `t`, rounded down (Python language reference 6.7), of two values of `t`.
+/// `a // b` of two values of `t`, rounded down (Python language reference 6.7): `ZeroDivisor` by 0,
+/// `TooLarge` where the least value of a signed type is divided by -1.
 #[tactic(auto, unfolding(crate::specs::Division::floor_div))]
 pub fn floor_div(t: CNum, a: i128, b: i128) -> Result<i128, NumFault>
     requires a_value { IsValue t a }
@@ -35,7 +36,7 @@ pub fn floor_div(t: CNum, a: i128, b: i128) -> Result<i128, NumFault>
     Ok(quotient(a, b))
 }
 
-/// `a % b`, with the sign of `b` (Python language reference 6.7), of two values of `t`.
+/// `a % b` of two values of `t`, with the sign of `b` (Python language reference 6.7): `ZeroDivisor` by 0.
 #[tactic(auto, unfolding(crate::specs::Division::floor_mod))]
 pub fn floor_mod(t: CNum, a: i128, b: i128) -> Result<i128, NumFault>
     requires a_value { IsValue t a }

@@ -1,8 +1,11 @@
-ghost use Rattle.std.specs.Prelude.{◌≡◌, ◌≢◌, ◌<◌, ◌↔◌, ℕ, length, slice_get, Some, ℤ, pos};
+ghost use Rattle.std.specs.Prelude.{◌≡◌, ◌≢◌, ◌<◌, ◌↔◌, ◌+◌, ◌%◌, ℕ, min, max, length, slice_get, Some, ℤ, pos};
+ghost use Rattle.std.specs.Int.{bit_at};
+ghost use Rattle.cy_num.specs.Arithmetic.{arith_result, pattern};
 ghost use Rattle.cy_num.specs.Division.{IsFloorDivision, floor_quotient, floor_remainder};
 ghost use Rattle.cy_num.specs.Turns.{LiesBefore, range_turns, turn};
 ghost use Rattle.cy_num.specs.Types.{IsValue, common};
 ghost use Rattle.cy_num.specs.Wrapping.{IsWrapped, wrap};
+ghost use Rattle.cy_num.specs.declared.types.Arith.TheVariants.{And, Or, Xor};
 ghost use Rattle.cy_num.specs.declared.types.CNum.{CNum};
 
 /// The usual arithmetic conversions don't depend on the order of the operands. A law; it does nothing.
@@ -50,4 +53,14 @@ pub fn range_turns_lie_before_the_end()
 pub fn range_turns_go_by_the_step()
     ensures { (a b c : ℤ) (k : ℕ) → k < length (range_turns a b c)
         → slice_get (range_turns a b c) k ≡ Some (turn a c k) }
+{}
+
+/// `&`, `|` and `^` go bit by bit (ISO/IEC 9899:2011 6.5.10 to 6.5.12). A law; it does nothing.
+pub fn bitwise_operations_go_bit_by_bit()
+    ensures and { (t : CNum) (a b : ℤ) (k : ℕ) → bit_at (pattern t (arith_result And t a b)) k
+        ≡ min (bit_at (pattern t a) k) (bit_at (pattern t b) k) }
+    ensures or { (t : CNum) (a b : ℤ) (k : ℕ) → bit_at (pattern t (arith_result Or t a b)) k
+        ≡ max (bit_at (pattern t a) k) (bit_at (pattern t b) k) }
+    ensures xor { (t : CNum) (a b : ℤ) (k : ℕ) → bit_at (pattern t (arith_result Xor t a b)) k
+        ≡ (bit_at (pattern t a) k + bit_at (pattern t b) k) % 2 }
 {}
