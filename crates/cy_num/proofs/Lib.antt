@@ -1,0 +1,6 @@
+mod Bits
+mod Floor
+mod InType
+mod TurnLemmas
+mod Wide
+mod Wraps

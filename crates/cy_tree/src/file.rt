@@ -1,0 +1,97 @@
+ghost use Rattle.std.specs.Prelude.{◌≡◌, ◌≤◌, ◌↔◌, ◌++◌, List, None, IfOk, IfSome, OnOk, length};
+ghost use Rattle.cy_tree.specs.Nodes.{FileNode, Numbered, nodes};
+ghost use Rattle.cy_tree.specs.Links.{AreLinks, IsLinked};
+ghost use Rattle.cy_tree.specs.Seen.{seen};
+ghost use Rattle.cy_tree.specs.declared.file.Link.{Link};
+
+use crate::content::Content;
+use crate::node::Node;
+use cy_base::OutOfMemory;
+use std::alloc::Global;
+use std::marker::Model;
+
+/// The node around a node, by its number, and the node's place there.
+#[derive(Clone, Copy, Debug, PartialEq, Eq)]
+struct Link {
+    outer: usize,
+    place: usize,
+}
+
+/// The tree of a file. Contracts see it as what the file holds. The project's own.
+#[derive(Drop)]
+pub struct FileTree {
+    content: Content,
+    // For each node but the first, so that a node is found from its number by going outwards.
+    links: Vec<Link>,
+}
+
+impl Model for FileTree {
+    ghost use Rattle.cy_tree.specs.Nodes.{FileNode};
+    ghost use Rattle.cy_tree.specs.Links.{AreLinks};
+    ghost use Rattle.cy_tree.specs.declared.content.Content.{Content};
+
+    ghost use Rattle.cy_tree.specs.contracts.expr.Expr as expr;
+    ghost use Rattle.cy_tree.specs.contracts.stmt.Stmt as stmt;
+    ghost use Rattle.cy_tree.specs.contracts.stmt.Suite as suite;
+    ghost use Rattle.std.specs.Coded.{codes};
+
+    ghost Value = { Content };
+
+    ghost coded = { Prim.hlevel (codes, expr.the_row.coded, stmt.the_row.coded, suite.the_row.coded) };
+
+    ghost view = { λ it. it.content };
+
+    ghost invariant = { λ it. AreLinks 0 (FileNode it.content) it.links.items };
+}
+
+// Appends the links of the nodes inside `node`, whose number is that of the links so far.
+fn link_inside(node: Node<'_>, links: &mut Vec<Link>) -> Result<(), OutOfMemory>
+    ensures { OnOk result ((more : List Link) × (links.new.items ≡ links.old.items ++ more)
+        × AreLinks (length links.old.items) (seen node.entry) more) }
+{
+    let outer = links.len();
+    let mut place = 0;
+    while let Some(child) = node.child(place) {
+        links.push(Link { outer, place })?;
+        link_inside(child, links)?;
+        place += 1;
+    }
+    Ok(())
+}
+
+impl FileTree {
+    /// The tree of a file that holds this.
+    pub fn new(alloc: Global, content: Content) -> Result<FileTree, OutOfMemory>
+        ensures { IfOk result (λ tree. tree ≡ content) }
+    {
+        let mut links = Vec::new(alloc);
+        link_inside(Node::File(&content), &mut links)?;
+        Ok(FileTree { content, links })
+    }
+
+    /// What the file holds.
+    pub fn content(&self) -> &Content
+        ensures { result.now ≡ self.now }
+    {
+        &self.content
+    }
+
+    /// How many nodes the file has.
+    pub fn nodes(&self) -> usize
+        ensures { result ≡ nodes (FileNode self.now) }
+    {
+        self.links.len() + 1
+    }
+
+    /// The node of a number, which is found from its own depth in steps. None where there are no so many nodes.
+    pub fn node(&self, number: usize) -> Option<Node<'_>>
+        ensures found { IfSome result (λ node. Numbered (FileNode self.entry.now) number (seen node)) }
+        ensures none { (result ≡ None) ↔ (nodes (FileNode self.entry.now) ≤ number) }
+    {
+        if number == 0 {
+            return Some(Node::File(&self.content));
+        }
+        let link = self.links.get(number - 1)?;
+        self.node(link.outer)?.child(link.place)
+    }
+}
