@@ -4,6 +4,7 @@
 mod content;
 mod decl;
 mod expr;
+mod file;
 mod node;
 mod stmt;
 mod types;
@@ -17,6 +18,7 @@ pub use expr::{
     Comparison, Expr, Index, Operand, Pair, Part, ShiftOp, ShiftOperand, SumOp, SumOperand, TermOp,
     TermOperand, UnaryOp,
 };
+pub use file::FileTree;
 pub use node::Node;
 pub use stmt::{Arm, AugOp, Declared, Handler, Line, LockWord, Simple, Stmt, Suite};
 pub use types::{Dim, Ident, NumberWords, TypeName, TypeNode};
