@@ -96,6 +96,7 @@ more_links base root place done more c linked e below =
       where
         some_is : Some (record { outer = base; place = place }) ≡ Some l → record { outer = base; place = place } ≡ l
         some_is h = cc
+
         own : record { outer = base; place = place } ≡ l → IsLinked base root (suc k) l
         own same = subst (λ (x : Link). IsLinked base root (suc k) x) same (record {
           node = c;
@@ -111,6 +112,7 @@ more_links base root place done more c linked e below =
         subst (λ i. IsLinked base root i l) (omega (arith, here, linked.all))
         (raised base root c (suc (inside (take place (children root)))) (suc j) l (child_number root place c e)
         (subst (λ b. IsLinked b c (suc j) l) (omega (arith, linked.all)) (below.each j l h)))
+
     of_each : {k : ℕ} {l : Link} → (slice_get done k ≡ Some l) ⊎ ((j : ℕ) × (k ≡ length done + j) × (slice_get (record { outer = base; place = place } ∷ more) j ≡ Some l)) → IsLinked base root (suc k) l
     of_each {k} {l} (inl h) = linked.each k l h
     of_each {k} {l} (inr h) = of_rest k l h.0 h.1 h.2
@@ -139,11 +141,12 @@ pub linked_on : (init loop pushed new done more : List Link) (root c : Tree) (ou
 linked_on init loop pushed new done more root c outer place a b e here linked child below =
     let link : Link = record { outer = length init; place = place } in
     let b' : pushed ≡ loop ++ link ∷ [] = subst (λ o. pushed ≡ loop ++ record { outer = o; place = place } ∷ []) here b in
-    let count : length pushed ≡ suc (length init + length done) = omega (arith, ap length a, ap length b', length-append init done, length-append loop (link ∷ [])) in
-    (done ++ link ∷ more,
-     joined init loop pushed new done more link a b' e,
-     subst (λ k. AreLinked (length init) root k (done ++ link ∷ more)) (omega arith)
-     (more_links (length init) root place done more c linked child (subst (λ n. AreLinks n c more) count below)))
+    let count : length pushed ≡ suc (length init + length done) = omega (arith, ap length a, ap length b', length-append init done, length-append loop (link ∷ [])) in (
+      done ++ link ∷ more,
+      joined init loop pushed new done more link a b' e,
+      subst (λ k. AreLinked (length init) root k (done ++ link ∷ more)) (omega arith)
+          (more_links (length init) root place done more c linked child (subst (λ n. AreLinks n c more) count below)),
+    )
 
 -- each child has a node at least
 at_least : (ts : List Tree) (k : ℕ) → k ≤ length ts → k ≤ inside (take k ts)

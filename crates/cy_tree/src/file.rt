@@ -30,7 +30,6 @@ impl Model for FileTree {
     ghost use Rattle.cy_tree.specs.Nodes.{FileNode};
     ghost use Rattle.cy_tree.specs.Links.{AreLinks};
     ghost use Rattle.cy_tree.specs.declared.content.Content.{Content};
-
     ghost use Rattle.cy_tree.specs.contracts.expr.Expr as expr;
     ghost use Rattle.cy_tree.specs.contracts.stmt.Stmt as stmt;
     ghost use Rattle.cy_tree.specs.contracts.stmt.Suite as suite;

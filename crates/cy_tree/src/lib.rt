@@ -6,7 +6,9 @@ mod decl;
 mod expr;
 mod file;
 mod node;
+mod set;
 mod stmt;
+mod ty;
 mod types;
 
 pub use content::Content;
@@ -20,5 +22,10 @@ pub use expr::{
 };
 pub use file::FileTree;
 pub use node::Node;
+pub use set::{
+    ModuleFiles, NameKind, NamedSet, NodeId, NodeInfo, ParsedFile, Scope, ScopeId, SourceSet,
+    TypedSet,
+};
 pub use stmt::{Arm, AugOp, Declared, Handler, Line, LockWord, Simple, Stmt, Suite};
+pub use ty::{ClassId, Clause, Coercion, FnId, Signature, Ty, ViewTy};
 pub use types::{Dim, Ident, NumberWords, TypeName, TypeNode};
