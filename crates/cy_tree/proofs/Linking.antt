@@ -156,3 +156,8 @@ at_least (t ∷ ts) (suc k) h = omega (arith, nodes-some t, at_least ts k (omega
 
 pub place_within : (base : ℕ) (root : Tree) (place : ℕ) (links : List Link) → AreLinked base root place links → place ≤ length links
 place_within base root place links linked = omega (arith, linked.all, at_least (children root) place linked.within)
+
+-- a child comes behind its node and the children before it
+pub child_follows : (root : Tree) (n : ℕ) (t : Tree) (place : ℕ) (c : Tree) → Numbered root n t → slice_get (children t) place ≡ Some c
+    → Numbered root (suc (n + inside (take place (children t)))) c
+child_follows root n t place c at e = Inside at (take place (children t)) c (drop (suc place) (children t)) (parts_at (children t) place c e)

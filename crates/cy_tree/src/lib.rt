@@ -5,9 +5,12 @@ mod content;
 mod decl;
 mod expr;
 mod file;
+mod laws;
 mod node;
 mod set;
 mod stmt;
+#[cfg(test)]
+mod tests;
 mod ty;
 mod types;
 
@@ -21,6 +24,9 @@ pub use expr::{
     TermOperand, UnaryOp,
 };
 pub use file::FileTree;
+pub use laws::{
+    a_number_is_that_of_one_node, children_follow_in_order, nodes_count_themselves_and_those_inside,
+};
 pub use node::Node;
 pub use set::{
     ModuleFiles, NameKind, NamedSet, NodeId, NodeInfo, ParsedFile, Scope, ScopeId, SourceSet,
