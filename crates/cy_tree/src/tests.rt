@@ -93,10 +93,10 @@ fn many_nodes_are_found(rt: HostRuntime) -> Result<(), Fail> {
     }
     let tree = FileTree::new(rt.alloc(), Content::Implementation(tops))?;
     assert_eq!(rt; tree.nodes(), 400_001);
-    let mut simples = 0;
+    let mut simples: usize = 0;
     for number in 0..tree.nodes() {
         if kind(tree.node(number)) == "simple" {
-            simples += 1;
+            simples = simples.saturating_add(1);
         }
     }
     assert_eq!(rt; simples, 100_000);
