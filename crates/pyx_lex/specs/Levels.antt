@@ -1,0 +1,27 @@
+-- Levels of indentation, looked back for in the widths of the earlier lines, the latest first (Python language
+-- reference, section 2.1.8). A line of width 0 is thought before the first.
+use Prim.Native.Nat.{ℕ}
+use Rattle.std.specs.Prelude.{List, [], ◌∷◌, Bool, ◌&&◌, ◌||◌, ◌==◌, nat_lt, length}
+use Rattle.std.specs.List.{filter}
+
+-- A width is open where an earlier line has it and no line between is narrower.
+abbrev pub is_open : ℕ → List ℕ → Bool
+is_open width [] = width == 0
+is_open width (w ∷ before) = width == w || (nat_lt width w && is_open width before)
+
+-- the open widths, each once: that of the line before, and of those that were open there the narrower ones
+unfoldable pub open_widths : List ℕ → List ℕ
+open_widths [] = 0 ∷ []
+open_widths (w ∷ before) = w ∷ filter (λ v. nat_lt v w) (open_widths before)
+
+-- the width of the line before
+abbrev pub width_before : List ℕ → ℕ
+width_before [] = 0
+width_before (w ∷ before) = w
+
+abbrev pub is_wider : ℕ → List ℕ → Bool
+is_wider width before = nat_lt (width_before before) width
+
+-- how many open widths are above this one
+abbrev pub open_above : ℕ → List ℕ → ℕ
+open_above width before = length (filter (nat_lt width) (open_widths before))
