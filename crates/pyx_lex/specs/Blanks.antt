@@ -1,6 +1,6 @@
 -- What stands between tokens: blanks, comments and the ends of lines (Python language reference, section 2.1).
 use Prim.Native.Nat.{ℕ}
-use Rattle.std.specs.Prelude.{List, [], ◌∷◌, Bool, not, ◌&&◌, ◌||◌, ◌==◌, ◌+◌, nat_eq, if◌then◌else◌, slice_index, codes, length, take, drop, bytes_eq}
+use Rattle.std.specs.Prelude.{List, [], ◌∷◌, Bool, not, ◌&&◌, ◌||◌, ◌==◌, ◌+◌, nat_eq, if◌then◌else◌, slice_index, codes, take, drop, bytes_eq}
 use Rattle.std.specs.List.{prefix_len, count_by, position, filter, starts_with}
 use Rattle.pyx_lex.specs.declared.piece.Indentation.{Indentation}
 

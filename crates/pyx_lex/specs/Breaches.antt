@@ -2,7 +2,6 @@
 use Prim.Native.Nat.{ℕ}
 use Rattle.std.specs.Prelude.{◌≡◌, ◌<◌, ◌≤◌, ◌⊎◌, List, Contains, All}
 use Rattle.cy_base.specs.declared.place.Refusal.{Refusal}
-use Rattle.cy_base.specs.declared.place.Rule.{Rule}
 use Rattle.cy_base.specs.declared.place.Phase.TheVariants.{Lex}
 
 -- a rule on tokens by its number, and the byte at which it is broken

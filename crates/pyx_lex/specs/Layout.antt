@@ -1,9 +1,8 @@
 -- What pieces give, one after the other: tokens, those of the lines among them, and breaches (Python language reference,
 -- section 2.1).
-use Prim.Native.Nat.{ℕ, zero, suc}
-use Rattle.std.specs.Prelude.{List, [], ◌∷◌, ◌++◌, Bool, true, false, not, ◌&&◌, ◌||◌, ◌==◌, ◌+◌, ◌-◌, nat_lt, if◌then◌else◌, Option, Some, None, replicate}
+use Prim.Native.Nat.{ℕ}
+use Rattle.std.specs.Prelude.{List, [], ◌∷◌, ◌++◌, Bool, true, false, ◌&&◌, ◌+◌, ◌-◌, nat_lt, if◌then◌else◌, Option, Some, None, replicate}
 use Rattle.pyx_lex.specs.declared.piece.Indentation.{Indentation}
-use Rattle.pyx_lex.specs.declared.piece.Piece.{Piece}
 use Rattle.pyx_lex.specs.declared.piece.Shape.{Shape}
 use Rattle.pyx_lex.specs.declared.piece.Shape.TheVariants.{Blanks, Comment, LineEnd, Join, Spelled, Faulty, Stray, Cut}
 use Rattle.pyx_lex.specs.declared.piece.Fault.{Fault}

@@ -1,6 +1,6 @@
 -- Integer literals (Python language reference, section 2.4.4). The greatest is 2 ^ 128 - 1, which is the project's own.
 use Prim.Native.Nat.{ℕ}
-use Rattle.std.specs.Prelude.{List, [], ◌∷◌, Bool, not, ◌&&◌, ◌||◌, ◌==◌, ◌+◌, ◌*◌, ◌^◌, nat_lt, nat_le, if◌then◌else◌, slice_index, length, take, drop, fold}
+use Rattle.std.specs.Prelude.{List, [], ◌∷◌, Bool, ◌&&◌, ◌||◌, ◌==◌, ◌+◌, ◌*◌, ◌^◌, nat_lt, nat_le, if◌then◌else◌, slice_index, take, drop, fold}
 use Rattle.std.specs.Char.{is_digit, digit_value}
 use Rattle.pyx_lex.specs.Names.{begins_with_continue}
 

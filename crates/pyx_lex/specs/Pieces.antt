@@ -1,6 +1,6 @@
 -- A text is cut into pieces, each the longest that fits at its place (Python language reference, section 2).
 use Prim.Native.Nat.{ℕ, zero, suc}
-use Rattle.std.specs.Prelude.{List, [], ◌∷◌, Bool, true, false, not, ◌&&◌, ◌||◌, ◌==◌, ◌+◌, ◌-◌, nat_lt, if◌then◌else◌, slice_index, length, take, drop, Option, Some, None}
+use Rattle.std.specs.Prelude.{List, [], ◌∷◌, Bool, true, false, ◌&&◌, ◌==◌, ◌+◌, ◌-◌, if◌then◌else◌, slice_index, length, take, drop, chars, encode_utf8_all, Option, Some, None}
 use Rattle.std.specs.Char.{is_ascii_digit}
 use Rattle.pyx_lex.specs.declared.piece.Piece.{Piece}
 use Rattle.pyx_lex.specs.declared.piece.Shape.{Shape}
@@ -56,9 +56,13 @@ unfoldable pub string_piece : Bool → Bool → List ℕ → Piece
 string_piece broken after_name text =
     piece (if broken && is_open text then Cut else string_shape after_name (string_value text)) (string_len text)
 
+-- the bytes of the first character
+abbrev pub first_len : List ℕ → ℕ
+first_len text = length (encode_utf8_all (take 1 (chars text)))
+
 unfoldable pub sign_piece : List ℕ → Piece
 sign_piece text =
-    if sign_len text == 0 then piece Stray 1 else piece (Spelled (Sign (take (sign_len text) text))) (sign_len text)
+    if sign_len text == 0 then piece Stray (first_len text) else piece (Spelled (Sign (take (sign_len text) text))) (sign_len text)
 
 -- the piece that a text begins with
 unfoldable pub piece_at : Bool → Bool → List ℕ → Piece

@@ -2,7 +2,7 @@
 use Prim.Native.Nat.{ℕ, zero, suc}
 use Rattle.std.specs.Prelude.{List, [], ◌∷◌, ◌++◌, Bool, true, false, not, ◌&&◌, ◌||◌, ◌==◌, ◌+◌, ◌*◌, nat_lt, if◌then◌else◌, slice_index, length, take, drop, fold, chars, encode_utf8_all, Option, Some, None}
 use Rattle.std.specs.List.{list_all}
-use Rattle.std.specs.Option.{option_map, option_and_then}
+use Rattle.std.specs.Option.{option_map}
 use Rattle.std.specs.Char.{is_digit, digit_value}
 use Rattle.std.specs.Str.{all_scalars}
 use Rattle.pyx_lex.specs.declared.string.Opening.{Opening}
@@ -50,13 +50,16 @@ closes opening text =
 abbrev pub stops : Opening → List ℕ → Bool
 stops opening text = closes opening text || (not opening.triple && slice_index text 0 == 10)
 
--- How many bytes stand behind the opening quotes before what stops the string, or before the text's end. In a string
--- that isn't raw a backslash takes the byte behind it along.
+-- In a string that isn't raw a backslash takes the byte behind it along, unless it is taken along itself.
+abbrev pub takes_next : Opening → Bool → ℕ → Bool
+takes_next opening taken b = not taken && (not opening.raw && b == 92)
+
+-- How many bytes stand behind the opening quotes before what stops the string, or before the text's end. A byte that a
+-- backslash takes along stops nothing.
 abbrev pub inside_len : Opening → Bool → List ℕ → ℕ
-inside_len opening escaped [] = 0
-inside_len opening true (b ∷ rest) = 1 + inside_len opening false rest
-inside_len opening false (b ∷ rest) =
-    if stops opening (b ∷ rest) then 0 else 1 + inside_len opening (not opening.raw && b == 92) rest
+inside_len opening taken [] = 0
+inside_len opening taken (b ∷ rest) =
+    if not taken && stops opening (b ∷ rest) then 0 else 1 + inside_len opening (takes_next opening taken b) rest
 
 abbrev pub inside_of : List ℕ → List ℕ
 inside_of text =

@@ -1,6 +1,6 @@
 -- The tokens of a file, and its breaches.
 use Prim.Native.Nat.{ℕ}
-use Rattle.std.specs.Prelude.{List, [], ◌∷◌, ◌++◌, Bool, false, not, ◌==◌, nat_lt, if◌then◌else◌, length, take, drop, nat_eq}
+use Rattle.std.specs.Prelude.{List, [], ◌∷◌, Bool, false, nat_lt, if◌then◌else◌, length, take, drop, nat_eq}
 use Rattle.std.specs.List.{starts_with}
 use Rattle.std.specs.Str.Lossy.{utf8_valid_len}
 use Rattle.pyx_lex.specs.declared.token.Token.{Token}

@@ -1,8 +1,12 @@
 //! The tokens of a source text, or the first rule on tokens that it breaks.
 #![tactic(auto)]
 
+mod blanks;
 mod line;
+mod name;
+mod number;
 mod piece;
+mod sign;
 mod string;
 mod token;
 
