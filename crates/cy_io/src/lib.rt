@@ -4,7 +4,6 @@
 mod answers;
 mod calls;
 mod disk;
-mod error;
 mod memory;
 mod outside;
 mod store;
@@ -13,8 +12,8 @@ mod sure;
 mod tests;
 
 pub use answers::{ReadAnswer, WriteAnswer};
+pub use cy_base::OutOfMemory;
 pub use disk::{DiskFiles, StdSink};
-pub use error::OutOfMemory;
 pub use memory::{MemFiles, MemSink};
 pub use outside::{Files, Sink};
 pub use sure::{SureFiles, SureSink};

@@ -7,9 +7,9 @@ ghost use Rattle.cy_io.specs.Told.{SameElsewhere, IsWritten, IsPartlyAppended};
 
 use crate::answers::{ReadAnswer, WriteAnswer};
 use crate::calls::Calls;
-use crate::error::OutOfMemory;
 use crate::outside::{Files, Sink};
 use crate::store::Store;
+use cy_base::OutOfMemory;
 use std::alloc::Global;
 
 /// Files in memory, of which the calls with given numbers fail. The project's own.

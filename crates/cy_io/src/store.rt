@@ -4,7 +4,7 @@ ghost use Rattle.cy_io.specs.Store.{stored};
 ghost use Rattle.cy_io.specs.Told.{IsWritten};
 
 use crate::answers::ReadAnswer;
-use crate::error::OutOfMemory;
+use cy_base::OutOfMemory;
 use std::alloc::Global;
 use std::collections::BTreeMap;
 

@@ -3,9 +3,9 @@ ghost use Rattle.cy_io.specs.Memory.{sure_files, sure_held};
 ghost use Rattle.cy_io.specs.Told.{IsWritten};
 
 use crate::answers::{ReadAnswer, WriteAnswer};
-use crate::error::OutOfMemory;
 use crate::outside::{Files, Sink};
 use crate::store::Store;
+use cy_base::OutOfMemory;
 use std::alloc::Global;
 
 /// Files in memory that don't fail. The project's own.
