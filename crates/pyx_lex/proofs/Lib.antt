@@ -1,3 +1,4 @@
 mod Digits
+mod Escapes
 mod Fronts
 mod Normal

@@ -1,10 +1,11 @@
 -- String literals and their escapes (Python language reference, section 2.4.1).
 use Prim.Native.Nat.{ℕ, zero, suc}
-use Rattle.std.specs.Prelude.{List, [], ◌∷◌, ◌++◌, Bool, true, false, not, ◌&&◌, ◌||◌, ◌==◌, ◌+◌, ◌*◌, nat_lt, if◌then◌else◌, slice_index, length, take, drop, fold, chars, encode_utf8_all, Option, Some, None}
+use Rattle.std.specs.Prelude.{List, [], ◌∷◌, ◌++◌, Bool, true, false, not, ◌&&◌, ◌||◌, ◌==◌, ◌+◌, ◌-◌, ◌*◌, nat_lt, if◌then◌else◌, slice_index, length, take, drop, fold, chars, encode_utf8_all, Option, Some, None, option_to_list}
 use Rattle.std.specs.List.{list_all}
 use Rattle.std.specs.Option.{option_map}
 use Rattle.std.specs.Char.{is_digit, digit_value}
 use Rattle.std.specs.Str.{all_scalars}
+use Rattle.pyx_lex.specs.declared.escape.Part.{Part}
 use Rattle.pyx_lex.specs.declared.string.Opening.{Opening}
 
 abbrev pub is_quote : ℕ → Bool
@@ -108,41 +109,48 @@ abbrev pub is_code : ℕ → List ℕ → Bool
 is_code n digits =
     (length digits == n && list_all (λ c. is_digit c 16) digits) && all_scalars (hex_value digits ∷ [])
 
--- what an escape gives, and how many characters it takes behind the backslash
-pub record Escape : Type 0 where
-  pub gives : List ℕ
-  pub taken : ℕ
+-- A part of an inside is a character, or an escape: the character that it stands for, if any, and how many it takes.
+abbrev pub part : Option ℕ → ℕ → Part
+part gives taken = record { gives = gives; taken = taken }
 
-abbrev pub one_letter : Option ℕ → Option Escape
-one_letter None = None
-one_letter (Some c) = Some (record { gives = c ∷ []; taken = 1 })
+abbrev pub part_of : Option ℕ → ℕ → Option Part
+part_of None taken = None
+part_of (Some c) taken = Some (part (Some c) taken)
 
-abbrev pub code_escape : ℕ → List ℕ → Option Escape
-code_escape n cs =
-    if nat_lt 0 n && is_code n (take n cs) then Some (record { gives = hex_value (take n cs) ∷ []; taken = 1 + n }) else None
+-- the code of a character in n hexadecimal digits
+abbrev pub code_at : ℕ → List ℕ → Option ℕ
+code_at n cs = if is_code n (take n cs) then Some (hex_value (take n cs)) else None
 
 -- A backslash before LF gives nothing; any other escape is none.
-abbrev pub escape_at : List ℕ → Option Escape
-escape_at [] = None
-escape_at (c ∷ cs) =
-    if c == 10 then Some (record { gives = []; taken = 1 }) else
-    if nat_lt 0 (wanted_digits c) then code_escape (wanted_digits c) cs else one_letter (letter_escape c)
+abbrev pub escape_at : ℕ → List ℕ → Option Part
+escape_at c cs =
+    if c == 10 then Some (part None 2) else
+    if wanted_digits c == 0 then part_of (letter_escape c) 2 else part_of (code_at (wanted_digits c) cs) (2 + wanted_digits c)
+
+abbrev pub behind_backslash : List ℕ → Option Part
+behind_backslash [] = None
+behind_backslash (c ∷ cs) = escape_at c cs
+
+-- the part that characters begin with
+abbrev pub part_at : List ℕ → Option Part
+part_at [] = None
+part_at (c ∷ cs) = if c == 92 then behind_backslash cs else Some (part (Some c) 1)
 
 abbrev pub put_before : List ℕ → Option (List ℕ) → Option (List ℕ)
 put_before front None = None
 put_before front (Some more) = Some (front ++ more)
 
--- what an escape gives, before what the characters behind it stand for
-abbrev pub put_escape : Option Escape → (ℕ → Option (List ℕ)) → Option (List ℕ)
-put_escape None rest = None
-put_escape (Some escape) rest = put_before escape.gives (rest escape.taken)
+-- what a part stands for, before what the characters behind it stand for
+abbrev pub put_part : Option Part → (ℕ → Option (List ℕ)) → Option (List ℕ)
+put_part None rest = None
+put_part (Some part) rest = put_before (option_to_list part.gives) (rest part.taken)
 
--- the characters that the characters of an inside stand for, without the first of them
-abbrev pub unescaped : ℕ → List ℕ → Option (List ℕ)
-unescaped skipped [] = Some []
-unescaped (suc skipped) (c ∷ cs) = unescaped skipped cs
-unescaped zero (c ∷ cs) =
-    if c == 92 then put_escape (escape_at cs) (λ taken. unescaped taken cs) else put_before (c ∷ []) (unescaped 0 cs)
+-- What the characters of an inside stand for. The characters of a part, beyond its first, begin none: so many of them
+-- are still to be passed.
+unfoldable pub unescaped : ℕ → List ℕ → Option (List ℕ)
+unescaped passed [] = Some []
+unescaped (suc passed) (c ∷ cs) = unescaped passed cs
+unescaped zero (c ∷ cs) = put_part (part_at (c ∷ cs)) (λ taken. unescaped (taken - 1) cs)
 
 -- the text that the inside of a string stands for, in UTF-8
 abbrev pub inside_value : Bool → List ℕ → Option (List ℕ)

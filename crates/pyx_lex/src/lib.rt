@@ -2,6 +2,7 @@
 #![tactic(auto)]
 
 mod blanks;
+mod escape;
 mod line;
 mod name;
 mod number;
