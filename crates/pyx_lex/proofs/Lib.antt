@@ -1,3 +1,4 @@
+mod Boundaries
 mod Digits
 mod Escapes
 mod Fronts

@@ -1,13 +1,9 @@
 -- Broken rules of a file, and which of them is the first.
 use Prim.Native.Nat.{ℕ}
 use Rattle.std.specs.Prelude.{◌≡◌, ◌<◌, ◌≤◌, ◌⊎◌, List, Contains, All}
+use Rattle.pyx_lex.specs.declared.lines.Breach.{Breach}
 use Rattle.cy_base.specs.declared.place.Refusal.{Refusal}
 use Rattle.cy_base.specs.declared.place.Phase.TheVariants.{Lex}
-
--- a rule on tokens by its number, and the byte at which it is broken
-pub record Breach : Type 0 where
-  pub rule : ℕ
-  pub offset : ℕ
 
 abbrev pub breach : ℕ → ℕ → Breach
 breach rule offset = record { rule = rule; offset = offset }

@@ -7,12 +7,13 @@ use Rattle.pyx_lex.specs.declared.piece.Shape.{Shape}
 use Rattle.pyx_lex.specs.declared.piece.Shape.TheVariants.{Blanks, Comment, LineEnd, Join, Spelled, Faulty, Stray, Cut}
 use Rattle.pyx_lex.specs.declared.piece.Fault.{Fault}
 use Rattle.pyx_lex.specs.declared.piece.Fault.TheVariants as fault
-use Rattle.pyx_lex.specs.declared.line.Line.{Line}
-use Rattle.pyx_lex.specs.declared.line.Line.TheVariants.{Fresh, Indented, Begun}
+use Rattle.pyx_lex.specs.declared.lines.Line.{Line}
+use Rattle.pyx_lex.specs.declared.lines.Line.TheVariants.{Fresh, Indented, Begun}
 use Rattle.pyx_lex.specs.declared.token.Token.{Token}
 use Rattle.pyx_lex.specs.declared.token.TokenKind.{TokenKind}
 use Rattle.pyx_lex.specs.declared.token.TokenKind.TheVariants.{Sign, Newline, Indent, Dedent, End}
-use Rattle.pyx_lex.specs.Breaches.{Breach, breach}
+use Rattle.pyx_lex.specs.declared.lines.Breach.{Breach}
+use Rattle.pyx_lex.specs.Breaches.{breach}
 use Rattle.pyx_lex.specs.Levels.{is_open, is_wider, open_above}
 use Rattle.pyx_lex.specs.Pieces.{Placed}
 use Rattle.pyx_lex.specs.Signs.{is_opening, is_closing}

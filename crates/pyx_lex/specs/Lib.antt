@@ -1,5 +1,6 @@
 pub mod Blanks
 pub mod Breaches
+pub mod Laid
 pub mod Layout
 pub mod Levels
 pub mod Names

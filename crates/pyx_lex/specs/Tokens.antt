@@ -4,7 +4,7 @@ use Rattle.std.specs.Prelude.{List, [], ◌∷◌, Bool, false, nat_lt, if◌the
 use Rattle.std.specs.List.{starts_with}
 use Rattle.std.specs.Str.Lossy.{utf8_valid_len}
 use Rattle.pyx_lex.specs.declared.token.Token.{Token}
-use Rattle.pyx_lex.specs.Breaches.{Breach}
+use Rattle.pyx_lex.specs.declared.lines.Breach.{Breach}
 use Rattle.pyx_lex.specs.Layout.{Item, Comes, Found, found, items_from, start_place}
 use Rattle.pyx_lex.specs.Pieces.{pieces_from}
 

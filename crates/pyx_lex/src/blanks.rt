@@ -1,11 +1,12 @@
 //! What stands between tokens (Python language reference, section 2.1).
-ghost use Rattle.std.specs.Prelude.{◌≡◌, ◌≤◌, ◌==◌, length, slice_index};
+ghost use Rattle.std.specs.Prelude.{◌≡◌, ◌≤◌, ◌<◌, ◌^◌, ◌==◌, length, slice_index, IfOk};
 ghost use Rattle.std.specs.List.{prefix_len, count_by, position};
 ghost use Rattle.std.specs.Str.{IsCharBoundary};
 ghost use Rattle.pyx_lex.specs.Blanks.{is_blank, blanks, indentation, line_end_len, is_line_end, line_len, is_directive, is_refused_directive, without_spaces, is_language_level};
 ghost use Rattle.pyx_lex.specs.Pieces.{blanks_piece, backslash_piece, comment_piece};
 
 use crate::piece::{Indentation, Piece, Shape};
+use std::alloc::{AllocError, Global};
 
 /// The byte at a place, or 0 behind the last.
 pub(crate) fn byte_at(text: &[u8], at: usize) -> u8
@@ -24,7 +25,8 @@ pub(crate) fn is_blank(byte: u8) -> bool
 }
 
 fn blanks_len(text: &[u8]) -> usize
-    ensures { result ≡ prefix_len is_blank text.now }
+    ensures len { result ≡ prefix_len is_blank text.now }
+    ensures within { result ≤ length text.now }
 {
     for (i, byte) in text.iter().enumerate() {
         if !is_blank(*byte) {
@@ -40,15 +42,20 @@ fn spaces(run: &[u8]) -> usize
     run.iter().filter(|byte| **byte == b' ').count()
 }
 
-fn first_tab(run: &[u8]) -> Option<usize>
+fn first_tab(run: &[u8]) -> Option<u32>
+    requires { length run.now < 2 ^ 32 }
     ensures { result ≡ position (λ b. b == 9) run.now }
 {
-    run.iter().position(|byte| *byte == b'\t')
+    match run.iter().position(|byte| *byte == b'\t') {
+        Some(at) => Some(at as u32),
+        None => None,
+    }
 }
 
 /// The run of blanks that a text begins with.
 #[tactic(auto, unfolding(crate::specs::Pieces::blanks_piece))]
 pub(crate) fn blanks_piece(text: &str) -> Piece
+    requires { length text.now < 2 ^ 32 }
     ensures { result ≡ blanks_piece text.now }
 {
     let len = blanks_len(text.as_bytes());
@@ -76,7 +83,8 @@ pub(crate) fn line_end_len(text: &[u8]) -> usize
 
 /// How many bytes stand before the line's end, or the text's.
 pub(crate) fn line_len(text: &[u8]) -> usize
-    ensures { result ≡ line_len text.now }
+    ensures len { result ≡ line_len text.now }
+    ensures within { result ≤ length text.now }
 {
     for i in 0..text.len() {
         if line_end_len(&text[i..]) != 0 {
@@ -84,4 +92,68 @@ pub(crate) fn line_len(text: &[u8]) -> usize
         }
     }
     text.len()
+}
+
+/// A join, or a backslash that is none.
+#[tactic(auto, unfolding(crate::specs::Pieces::backslash_piece))]
+pub(crate) fn backslash_piece(text: &str) -> Piece
+    requires { 0 < length text.now }
+    ensures { result ≡ backslash_piece text.now }
+{
+    let len = line_end_len(&text.as_bytes()[1..]);
+    if len != 0 {
+        Piece {
+            shape: Shape::Join,
+            len: 1 + len,
+        }
+    } else {
+        Piece {
+            shape: Shape::Stray,
+            len: 1,
+        }
+    }
+}
+
+fn without_spaces(alloc: Global, text: &[u8]) -> Result<Vec<u8>, AllocError>
+    ensures { IfOk result (λ kept. kept.items ≡ without_spaces text.now) }
+{
+    text.iter()
+        .filter(|byte| **byte != b' ')
+        .copied()
+        .collect(alloc)
+}
+
+fn is_language_level(text: &[u8]) -> bool
+    ensures { result ≡ is_language_level text.now }
+{
+    text == b"language_level=3".as_slice() || text == b"language_level=3str".as_slice()
+}
+
+fn is_refused_directive(alloc: Global, comment: &[u8]) -> Result<bool, AllocError>
+    ensures { IfOk result (λ refused. refused ≡ is_refused_directive comment.now) }
+{
+    if !comment.starts_with(b"# cython:") {
+        return Ok(false);
+    }
+    let kept = without_spaces(alloc, &comment[9..])?;
+    Ok(!is_language_level(&kept))
+}
+
+/// A comment, which runs to the line's end.
+#[tactic(auto, unfolding(crate::specs::Pieces::comment_piece))]
+pub(crate) fn comment_piece(alloc: Global, broken: bool, text: &str) -> Result<Piece, AllocError>
+    ensures { IfOk result (λ piece. piece ≡ comment_piece broken text.now) }
+{
+    let len = line_len(text.as_bytes());
+    if broken && text.len() == len {
+        return Ok(Piece {
+            shape: Shape::Cut,
+            len,
+        });
+    }
+    let refused = is_refused_directive(alloc, &text.as_bytes()[..len])?;
+    Ok(Piece {
+        shape: Shape::Comment(refused),
+        len,
+    })
 }

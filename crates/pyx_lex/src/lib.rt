@@ -3,7 +3,7 @@
 
 mod blanks;
 mod escape;
-mod line;
+mod lines;
 mod name;
 mod number;
 mod piece;

@@ -1,8 +1,12 @@
 //! Identifiers and keywords (Python language reference, section 2.3).
 ghost use Rattle.std.specs.Prelude.{◌≡◌, ◌↔◌, chars, encode_utf8_all, IfOk, IsTrue, take, take_while};
 ghost use Rattle.std.specs.Str.{IsCharBoundary};
+ghost use Rattle.pyx_lex.specs.Pieces.{name_shape, name_piece};
 ghost use Rattle.pyx_lex.specs.Names.{starts_name, begins_name, begins_with_continue, name_at, is_reserved, is_wrong_name, is_among, words_to_async, words_to_const, words_to_elif, words_to_gil, words_to_is, words_to_or, words_to_try, words_to_yield};
 
+use crate::piece::{Fault, Piece, Shape};
+use crate::token::TokenKind;
+use cy_base::{OutOfMemory, Text};
 use std::alloc::{AllocError, Global};
 use unicode_ident::{is_xid_continue, is_xid_start};
 use unicode_normalization::is_nfkc;
@@ -142,4 +146,35 @@ pub(crate) fn is_reserved(name: &[u8]) -> bool
 {
     ((is_to_async(name) || is_to_const(name)) || (is_to_elif(name) || is_to_gil(name)))
         || ((is_to_is(name) || is_to_or(name)) || (is_to_try(name) || is_to_yield(name)))
+}
+
+#[tactic(auto, unfolding(crate::specs::Pieces::name_shape))]
+fn name_shape(alloc: Global, name: &str) -> Result<Shape, OutOfMemory>
+    ensures { IfOk result (λ shape. shape ≡ name_shape name.now) }
+{
+    if is_reserved(name.as_bytes()) {
+        let word = Text::from_str(alloc, name)?;
+        return Ok(Shape::Spelled(TokenKind::Word(word)));
+    }
+    if is_wrong_name(alloc, name)? {
+        return Ok(Shape::Faulty(Fault::Name));
+    }
+    let text = Text::from_str(alloc, name)?;
+    Ok(Shape::Spelled(TokenKind::Name(text)))
+}
+
+/// The name or the reserved word that a text begins with.
+#[tactic(auto, unfolding(crate::specs::Pieces::name_piece))]
+pub(crate) fn name_piece(alloc: Global, broken: bool, text: &str) -> Result<Piece, OutOfMemory>
+    ensures { IfOk result (λ piece. piece ≡ name_piece broken text.now) }
+{
+    let len = name_len(text);
+    if broken && text.len() == len {
+        return Ok(Piece {
+            shape: Shape::Cut,
+            len,
+        });
+    }
+    let shape = name_shape(alloc, &text[..len])?;
+    Ok(Piece { shape, len })
 }

@@ -1,9 +1,14 @@
 //! Integer literals (Python language reference, section 2.4.4).
-ghost use Rattle.std.specs.Prelude.{◌≡◌, ◌≤◌, ◌^◌, ◌+◌, ◌*◌, ◌<◌, length, drop, MatchOption, SomeIff};
-ghost use Rattle.std.specs.Char.{digit_value, is_digit};
+ghost use Rattle.std.specs.Prelude.{◌≡◌, ◌≤◌, ◌^◌, ◌+◌, ◌*◌, ◌<◌, length, drop, MatchOption, SomeIff, slice_index, ◌==◌, ◌||◌, IsTrue};
+ghost use Rattle.std.specs.Char.{digit_value, is_digit, is_ascii_digit};
 ghost use Rattle.pyx_lex.specs.Numbers.{digits_len, digits_value, letter_base, prefix_base, has_base, number_base, number_prefix, number_digits, number_len, number_value};
+ghost use Rattle.pyx_lex.specs.Names.{begins_with_continue};
+ghost use Rattle.pyx_lex.specs.Pieces.{number_piece};
 
 use crate::blanks::byte_at;
+use crate::name::begins_with_continue;
+use crate::piece::{Fault, Piece, Shape};
+use crate::token::TokenKind;
 
 fn digit_value(byte: u8) -> u8
     ensures { result ≡ digit_value byte }
@@ -83,6 +88,7 @@ fn prefix_base(text: &[u8]) -> u8
 }
 
 /// A literal at the front of a text: its base, and the bytes of its base prefix and of its digits.
+#[derive(Clone, Copy)]
 struct Literal {
     base: u8,
     prefix: usize,
@@ -114,4 +120,33 @@ fn literal_at(text: &[u8]) -> Literal
         prefix: 0,
         digits: digits_len(base, text),
     }
+}
+
+/// Whether `.` or a character of names stands at the front.
+fn runs_on(after: &str) -> bool
+    ensures { result ≡ (slice_index after.now 0 == 46 || begins_with_continue after.now) }
+{
+    byte_at(after.as_bytes(), 0) == b'.' || begins_with_continue(after)
+}
+
+/// An integer literal that a text which begins with a digit begins with.
+#[tactic(auto, unfolding(crate::specs::Pieces::number_piece, crate::specs::Pieces::number_shape))]
+pub(crate) fn number_piece(broken: bool, text: &str) -> Piece
+    requires { IsTrue (is_ascii_digit (slice_index text.now 0)) }
+    ensures { result ≡ number_piece broken text.now }
+{
+    let literal = literal_at(text.as_bytes());
+    let len = literal.prefix + literal.digits;
+    if broken && text.len() == len {
+        return Piece {
+            shape: Shape::Cut,
+            len,
+        };
+    }
+    let value = digits_value(literal.base, &text.as_bytes()[literal.prefix..len]);
+    let shape = match value {
+        Some(value) if !runs_on(&text[len..]) => Shape::Spelled(TokenKind::Int(value)),
+        _ => Shape::Faulty(Fault::Int),
+    };
+    Piece { shape, len }
 }
