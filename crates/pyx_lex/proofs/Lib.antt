@@ -3,3 +3,5 @@ mod Digits
 mod Escapes
 mod Fronts
 mod Normal
+mod OpenWidths
+mod Reading

@@ -1,7 +1,7 @@
 -- Levels of indentation, looked back for in the widths of the earlier lines, the latest first (Python language
 -- reference, section 2.1.8). A line of width 0 is thought before the first.
 use Prim.Native.Nat.{ℕ}
-use Rattle.std.specs.Prelude.{List, [], ◌∷◌, ◌++◌, Bool, ◌&&◌, ◌||◌, ◌==◌, nat_lt, length}
+use Rattle.std.specs.Prelude.{List, [], ◌∷◌, ◌++◌, Bool, ◌&&◌, ◌||◌, ◌==◌, ◌-◌, nat_lt, length, slice_index}
 use Rattle.std.specs.List.{filter}
 
 -- A width is open where an earlier line has it and no line between is narrower.
@@ -26,3 +26,7 @@ is_wider width before = nat_lt (width_before before) width
 -- how many open widths are above this one
 abbrev pub open_above : ℕ → List ℕ → ℕ
 open_above width before = length (filter (nat_lt width) (open_widths before))
+
+-- the last of the open widths, which is the width of the line before
+abbrev pub last_of : List ℕ → ℕ
+last_of widths = slice_index widths (length widths - 1)

@@ -1,5 +1,5 @@
 //! What stands between tokens (Python language reference, section 2.1).
-ghost use Rattle.std.specs.Prelude.{◌≡◌, ◌≤◌, ◌<◌, ◌^◌, ◌==◌, length, slice_index, IfOk};
+ghost use Rattle.std.specs.Prelude.{◌≡◌, ◌≤◌, ◌<◌, ◌^◌, ◌==◌, length, slice_index, IfOk, IfSome};
 ghost use Rattle.std.specs.List.{prefix_len, count_by, position};
 ghost use Rattle.std.specs.Str.{IsCharBoundary};
 ghost use Rattle.pyx_lex.specs.Blanks.{is_blank, blanks, indentation, line_end_len, is_line_end, line_len, is_directive, is_refused_directive, without_spaces, is_language_level};
@@ -42,11 +42,18 @@ fn spaces(run: &[u8]) -> usize
     run.iter().filter(|byte| **byte == b' ').count()
 }
 
+fn tab_at(run: &[u8]) -> Option<usize>
+    ensures place { result ≡ position (λ b. b == 9) run.now }
+    ensures within { IfSome result (λ at. at < length run.now) }
+{
+    run.iter().position(|byte| *byte == b'\t')
+}
+
 fn first_tab(run: &[u8]) -> Option<u32>
     requires { length run.now < 2 ^ 32 }
     ensures { result ≡ position (λ b. b == 9) run.now }
 {
-    match run.iter().position(|byte| *byte == b'\t') {
+    match tab_at(run) {
         Some(at) => Some(at as u32),
         None => None,
     }

@@ -1,13 +1,15 @@
 //! Lines, levels of indentation and brackets (Python language reference, section 2.1).
-ghost use Rattle.std.specs.Prelude.{◌≡◌, ◌≤◌, ◌<◌, ◌+◌, ◌^◌, ◌==◌, ◌++◌, [], ◌∷◌, length, nat_lt, IfOk, OnOk, replicate};
+ghost use Rattle.std.specs.Prelude.{◌≡◌, ◌≤◌, ◌<◌, ◌+◌, ◌^◌, ◌==◌, ◌++◌, [], ◌∷◌, ℕ, List, length, nat_lt, IfOk, OnOk, None, false, replicate};
 ghost use Rattle.std.specs.List.{filter, list_any};
 ghost use Rattle.std.specs.Option.{ForSome};
 ghost use Rattle.pyx_lex.specs.Breaches.{breach};
 ghost use Rattle.pyx_lex.specs.Laid.{IsAt, Puts, Takes, TabFits};
-ghost use Rattle.pyx_lex.specs.Layout.{Place, start_place, gives, none, behind_blanks, behind_other, before_token, dedents, level_items, depth_behind, also_gives, token, found, rule_of, ended_line, comment_items, given_by};
-ghost use Rattle.pyx_lex.specs.Levels.{open_widths, open_above, is_wider, is_open, width_before};
+ghost use Rattle.pyx_lex.specs.Layout.{Place, start_place, gives, none, begins_line, behind_blanks, behind_other, before_token, dedents, level_items, depth_behind, also_gives, token, found, rule_of, ended_line, comment_items, given_by, given_at, items_at_end};
+ghost use Rattle.pyx_lex.specs.Pieces.{placed};
+ghost use Rattle.pyx_lex.specs.declared.token.Token.{Token as TokenValue};
+ghost use Rattle.pyx_lex.specs.Levels.{open_widths, open_above, is_wider, is_open, width_before, last_of};
 
-use crate::piece::{Fault, Indentation, Shape};
+use crate::piece::{Fault, Indentation, Piece, Shape};
 use crate::sign::{is_closing, is_opening};
 use crate::token::{Token, TokenKind};
 use cy_base::Span;
@@ -126,5 +128,226 @@ fn rule_of(fault: Fault) -> u8
         Fault::Name => 5,
         Fault::Str => 6,
         Fault::Int => 7,
+    }
+}
+
+/// The latest level.
+fn last_level(levels: &[usize]) -> usize
+    ensures { result ≡ last_of levels.now }
+{
+    match levels.last() {
+        Some(level) => *level,
+        None => 0,
+    }
+}
+
+/// Keeps the levels below a width, and puts the width behind them.
+fn settle(levels: &mut Vec<usize>, width: usize) -> Result<(), AllocError>
+    ensures { OnOk result (levels.new.items ≡ filter (λ level. nat_lt level width) levels.old.items ++ width ∷ []) }
+{
+    levels.retain(|level| *level < width);
+    levels.push(width)?;
+    Ok(())
+}
+
+/// What a line of a width gives before its first token.
+fn put_level(
+    out: &mut Vec<Token>,
+    levels: &[usize],
+    width: usize,
+    at: u32,
+) -> Result<Option<Breach>, AllocError>
+    ensures { (widths : List ℕ) → levels.now ≡ open_widths widths → IfOk result (λ broken. Puts broken out.old.items out.new.items (level_items width widths at)) }
+{
+    if last_level(levels) < width {
+        put(out, TokenKind::Indent, at, at)?;
+        return Ok(None);
+    }
+    if !has_level(levels, width) {
+        return Ok(Some(Breach {
+            rule: 3,
+            offset: at,
+        }));
+    }
+    put_dedents(out, levels_above(levels, width), at)?;
+    Ok(None)
+}
+
+impl Lines {
+    /// The start of a file.
+    #[tactic(auto, unfolding(crate::specs::Levels::open_widths))]
+    pub(crate) fn new(alloc: Global) -> Result<Lines, AllocError>
+        ensures { IfOk result (λ lines. IsAt lines start_place) }
+    {
+        let mut levels = Vec::new(alloc);
+        levels.push(0)?;
+        Ok(Lines {
+            levels,
+            line: Line::Fresh,
+            depth: 0,
+            begun: false,
+        })
+    }
+
+    /// The first token of a line begins it.
+    fn begin_line(
+        &mut self,
+        out: &mut Vec<Token>,
+        indentation: Indentation,
+        at: u32,
+    ) -> Result<Option<Breach>, AllocError>
+        ensures { (place : Place) → IsAt self.old place → IfOk result (λ broken. Takes broken out.old.items out.new.items self.new (begins_line indentation place at)) }
+    {
+        match indentation.tab {
+            Some(offset) => return Ok(Some(Breach { rule: 2, offset })),
+            None => {}
+        }
+        let broken = put_level(out, &self.levels, indentation.spaces, at)?;
+        settle(&mut self.levels, indentation.spaces)?;
+        self.line = Line::Begun;
+        self.begun = true;
+        Ok(broken)
+    }
+
+    fn before_token(
+        &mut self,
+        out: &mut Vec<Token>,
+        at: u32,
+    ) -> Result<Option<Breach>, AllocError>
+        ensures { (place : Place) → IsAt self.old place → IfOk result (λ broken. Takes broken out.old.items out.new.items self.new (before_token place.line place at)) }
+    {
+        match self.line {
+            Line::Fresh => {
+                let none = Indentation {
+                    spaces: 0,
+                    tab: None,
+                };
+                self.begin_line(out, none, at)
+            }
+            Line::Indented(indentation) => self.begin_line(out, indentation, at),
+            Line::Begun => Ok(None),
+        }
+    }
+
+    fn spelled(
+        &mut self,
+        out: &mut Vec<Token>,
+        kind: TokenKind,
+        start: u32,
+        end: u32,
+    ) -> Result<Option<Breach>, AllocError>
+        requires { self.old.depth < 2 ^ 32 }
+        ensures { (place : Place) → IsAt self.old place → IfOk result (λ broken. Takes broken out.old.items out.new.items self.new
+            (also_gives (before_token place.line place start) (token kind start end) (depth_behind kind))) }
+    {
+        let depth = depth_behind(&kind, self.depth);
+        let broken = self.before_token(out, start)?;
+        match broken {
+            Some(broken) => Ok(Some(broken)),
+            None => {
+                self.depth = depth;
+                put(out, kind, start, end)?;
+                Ok(None)
+            }
+        }
+    }
+
+    fn faulty(
+        &mut self,
+        out: &mut Vec<Token>,
+        fault: Fault,
+        at: u32,
+    ) -> Result<Option<Breach>, AllocError>
+        ensures { (place : Place) → IsAt self.old place → IfOk result (λ broken. Takes broken out.old.items out.new.items self.new
+            (also_gives (before_token place.line place at) (found (rule_of fault) at) (λ depth. depth))) }
+    {
+        let broken = self.before_token(out, at)?;
+        match broken {
+            Some(broken) => Ok(Some(broken)),
+            None => Ok(Some(Breach {
+                rule: rule_of(fault),
+                offset: at,
+            })),
+        }
+    }
+
+    fn end_line(
+        &mut self,
+        out: &mut Vec<Token>,
+        start: u32,
+        end: u32,
+    ) -> Result<Option<Breach>, AllocError>
+        ensures { (place : Place) → IsAt self.old place → IfOk result (λ broken. Takes broken out.old.items out.new.items self.new (ended_line place.line place start end)) }
+    {
+        if self.line == Line::Begun {
+            if self.depth > 0 {
+                return Ok(None);
+            }
+            put(out, TokenKind::Newline, start, end)?;
+        }
+        self.line = Line::Fresh;
+        self.depth = 0;
+        Ok(None)
+    }
+
+    fn comment(&mut self, refused: bool, at: u32) -> Option<Breach>
+        ensures { (place : Place) → IsAt self.old place → (out : List TokenValue) →
+            Takes result out out self.new (gives (comment_items refused place.widths at) (record place { line = behind_other place.line })) }
+    {
+        self.line = line_behind_other(self.line);
+        if refused && !self.begun {
+            Some(Breach {
+                rule: 8,
+                offset: at,
+            })
+        } else {
+            None
+        }
+    }
+
+    /// Takes a piece that begins at a byte: puts its tokens behind the others, or answers the first breach.
+    #[tactic(auto, unfolding(crate::specs::Layout::given_at))]
+    pub(crate) fn take(
+        &mut self,
+        out: &mut Vec<Token>,
+        piece: Piece,
+        start: u32,
+    ) -> Result<Option<Breach>, AllocError>
+        requires shallow { self.old.depth < 2 ^ 32 }
+        requires within { start + piece.len < 2 ^ 32 }
+        requires tab { TabFits piece.shape start }
+        ensures { (place : Place) → IsAt self.old place → IfOk result (λ broken. Takes broken out.old.items out.new.items self.new (given_at (placed piece start) place)) }
+    {
+        let end = start + piece.len as u32;
+        match piece.shape {
+            Shape::Blanks(indentation) => {
+                self.line = line_behind_blanks(self.line, start, indentation);
+                Ok(None)
+            }
+            Shape::Comment(refused) => Ok(self.comment(refused, start)),
+            Shape::LineEnd => self.end_line(out, start, end),
+            Shape::Join => {
+                self.line = line_behind_other(self.line);
+                Ok(None)
+            }
+            Shape::Spelled(kind) => self.spelled(out, kind, start, end),
+            Shape::Faulty(fault) => self.faulty(out, fault, start),
+            Shape::Stray => Ok(Some(Breach {
+                rule: 4,
+                offset: start,
+            })),
+            Shape::Cut => Ok(None),
+        }
+    }
+
+    /// Puts the tokens of the end of the file behind the others.
+    fn finish(&self, out: &mut Vec<Token>, end: u32) -> Result<(), AllocError>
+        ensures { (place : Place) → IsAt self.now place → OnOk result (Puts None out.old.items out.new.items (items_at_end false place end)) }
+    {
+        if self.line == Line::Begun {
+            put(out, TokenKind::Newline, end, end)?;
+        }
+        put_dedents(out, levels_above(&self.levels, 0), end)?;
+        put(out, TokenKind::End, end, end)
     }
 }
