@@ -77,7 +77,7 @@ last_listed (u ∷ before) =
 
 -- ---- items of levels
 
-read_replicate : (n : ℕ) (t : Token) → read (replicate n (Comes t)) ≡ Ok (replicate n t)
+pub read_replicate : (n : ℕ) (t : Token) → read (replicate n (Comes t)) ≡ Ok (replicate n t)
 read_replicate zero t = refl
 read_replicate (suc n) t = ap (with_front (t ∷ [])) (read_replicate n t)
 

@@ -4,7 +4,7 @@ ghost use Rattle.std.specs.List.{filter, list_any};
 ghost use Rattle.std.specs.Option.{ForSome};
 ghost use Rattle.pyx_lex.specs.Breaches.{breach};
 ghost use Rattle.pyx_lex.specs.Laid.{IsAt, Puts, Takes, TabFits};
-ghost use Rattle.pyx_lex.specs.Layout.{Place, start_place, gives, none, begins_line, behind_blanks, behind_other, before_token, dedents, level_items, depth_behind, also_gives, token, found, rule_of, ended_line, comment_items, given_by, given_at, items_at_end};
+ghost use Rattle.pyx_lex.specs.Layout.{Place, start_place, gives, none, begins_line, behind_blanks, behind_other, before_token, dedents, level_items, depth_behind, also_gives, token, found, rule_of, ended_line, comment_items, given_by, given_at, last_newline, items_at_end};
 ghost use Rattle.pyx_lex.specs.Pieces.{placed};
 ghost use Rattle.pyx_lex.specs.declared.token.Token.{Token as TokenValue};
 ghost use Rattle.pyx_lex.specs.Levels.{open_widths, open_above, is_wider, is_open, width_before, last_of};
@@ -171,6 +171,16 @@ fn put_level(
     }
     put_dedents(out, levels_above(levels, width), at)?;
     Ok(None)
+}
+
+fn put_last_newline(out: &mut Vec<Token>, line: Line, end: u32) -> Result<(), AllocError>
+    ensures { OnOk result (Puts None out.old.items out.new.items (last_newline line end)) }
+{
+    match line {
+        Line::Begun => put(out, TokenKind::Newline, end, end)?,
+        _ => {}
+    }
+    Ok(())
 }
 
 impl Lines {
@@ -341,13 +351,12 @@ impl Lines {
     }
 
     /// Puts the tokens of the end of the file behind the others.
-    fn finish(&self, out: &mut Vec<Token>, end: u32) -> Result<(), AllocError>
+    pub(crate) fn finish(&self, out: &mut Vec<Token>, end: u32) -> Result<(), AllocError>
         ensures { (place : Place) → IsAt self.now place → OnOk result (Puts None out.old.items out.new.items (items_at_end false place end)) }
     {
-        if self.line == Line::Begun {
-            put(out, TokenKind::Newline, end, end)?;
-        }
+        put_last_newline(out, self.line, end)?;
         put_dedents(out, levels_above(&self.levels, 0), end)?;
-        put(out, TokenKind::End, end, end)
+        put(out, TokenKind::End, end, end)?;
+        Ok(())
     }
 }
