@@ -1,6 +1,7 @@
 mod Boundaries
 mod Digits
 mod Escapes
+mod Forward
 mod Fronts
 mod Normal
 mod OpenWidths

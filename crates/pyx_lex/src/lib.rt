@@ -3,6 +3,7 @@
 
 mod blanks;
 mod escape;
+mod lex;
 mod lines;
 mod name;
 mod number;
