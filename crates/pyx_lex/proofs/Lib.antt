@@ -5,4 +5,5 @@ mod Forward
 mod Fronts
 mod Normal
 mod OpenWidths
+mod Order
 mod Reading

@@ -59,12 +59,12 @@ indentation_of Fresh = none
 indentation_of (Indented indentation) = indentation
 indentation_of Begun = none
 
+abbrev pub moved : ℕ → Option ℕ → Option ℕ
+moved start None = None
+moved start (Some k) = Some (start + k)
+
 abbrev pub shifted : ℕ → Indentation → Indentation
-shifted start indentation = record { spaces = indentation.spaces; tab = from indentation.tab }
-  where
-    from : Option ℕ → Option ℕ
-    from None = None
-    from (Some k) = Some (start + k)
+shifted start indentation = record { spaces = indentation.spaces; tab = moved start indentation.tab }
 
 -- the line behind blanks
 abbrev pub behind_blanks : ℕ → Indentation → Line → Line
@@ -72,11 +72,17 @@ behind_blanks start indentation Fresh = Indented (shifted start indentation)
 behind_blanks start indentation (Indented before) = Indented before
 behind_blanks start indentation Begun = Begun
 
--- the line behind a comment or a join
-abbrev pub behind_other : Line → Line
-behind_other Fresh = Indented none
-behind_other (Indented before) = Indented before
-behind_other Begun = Begun
+-- the line behind a join
+abbrev pub behind_join : Line → Line
+behind_join Fresh = Indented none
+behind_join (Indented before) = Indented before
+behind_join Begun = Begun
+
+-- the line behind a comment, behind which no token of it can come
+abbrev pub behind_comment : Line → Line
+behind_comment Fresh = Indented none
+behind_comment (Indented before) = Indented none
+behind_comment Begun = Begun
 
 -- rule 2: a tab in the indentation of a line with a token
 abbrev pub tab_items : Option ℕ → List Item
@@ -142,19 +148,19 @@ is_before_tokens (w ∷ widths) = false
 abbrev pub comment_items : Bool → List ℕ → ℕ → List Item
 comment_items refused widths at = if refused && is_before_tokens widths then found 8 at ∷ [] else []
 
--- rule 4: a character that starts no token, which begins no line
+-- Rule 4: a character that starts no token. Of a line that begins with one nothing is said of its indentation.
 abbrev pub given_by : Shape → Place → ℕ → ℕ → Given
 given_by (Blanks indentation) place start end =
     gives [] (record place { line = behind_blanks start indentation place.line })
 given_by (Comment refused) place start end =
-    gives (comment_items refused place.widths start) (record place { line = behind_other place.line })
+    gives (comment_items refused place.widths start) (record place { line = behind_comment place.line })
 given_by LineEnd place start end = ended_line place.line place start end
-given_by Join place start end = gives [] (record place { line = behind_other place.line })
+given_by Join place start end = gives [] (record place { line = behind_join place.line })
 given_by (Spelled kind) place start end =
     also_gives (before_token place.line place start) (token kind start end) (depth_behind kind)
 given_by (Faulty fault) place start end =
     also_gives (before_token place.line place start) (found (rule_of fault) start) (λ depth. depth)
-given_by Stray place start end = gives (found 4 start ∷ []) place
+given_by Stray place start end = gives (found 4 start ∷ []) (record place { line = Begun })
 given_by Cut place start end = gives [] place
 
 unfoldable pub given_at : Placed → Place → Given

@@ -1,10 +1,12 @@
 -- The tokens of a file, and its breaches.
 use Prim.Native.Nat.{ℕ}
-use Rattle.std.specs.Prelude.{List, [], ◌∷◌, Bool, false, nat_lt, if◌then◌else◌, length, take, drop, nat_eq}
-use Rattle.std.specs.List.{starts_with}
+use Rattle.std.specs.Prelude.{List, [], ◌∷◌, Bool, false, nat_lt, if◌then◌else◌, length, take, drop, chars, ◌≡◌}
+use Rattle.pyx_lex.specs.Names.{first_passes}
 use Rattle.std.specs.Str.Lossy.{utf8_valid_len}
 use Rattle.pyx_lex.specs.declared.token.Token.{Token}
+use Rattle.cy_base.specs.declared.place.Refusal.{Refusal}
 use Rattle.pyx_lex.specs.declared.lines.Breach.{Breach}
+use Rattle.pyx_lex.specs.Breaches.{IsFirst, refusal}
 use Rattle.pyx_lex.specs.Layout.{Item, Comes, Found, found, items_from, start_place}
 use Rattle.pyx_lex.specs.Pieces.{pieces_from}
 
@@ -17,7 +19,7 @@ is_broken bytes = nat_lt (utf8_valid_len bytes) (length bytes)
 
 -- a byte order mark at the start of a text is passed over
 abbrev pub mark_len : List ℕ → ℕ
-mark_len text = if starts_with nat_eq text (0xEF ∷ 0xBB ∷ 0xBF ∷ []) then 3 else 0
+mark_len text = if first_passes (λ c. c == 0xFEFF) (chars text) then 3 else 0
 
 -- what a text gives that isn't too long
 unfoldable pub items_of_text : Bool → List ℕ → List Item
@@ -50,3 +52,7 @@ tokens bytes = tokens_among (items bytes)
 -- the breaches of rules 1 to 9 in a file
 abbrev pub breaches : List ℕ → List Breach
 breaches bytes = breaches_among (items bytes)
+
+-- the refusal of the first breach in a file
+abbrev pub IsRefusal : ℕ → List ℕ → Refusal → Type 0
+IsRefusal file bytes refused = (first : Breach) × IsFirst first (breaches bytes) × (refused ≡ refusal file first)

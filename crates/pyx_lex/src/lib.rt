@@ -3,13 +3,15 @@
 
 mod blanks;
 mod escape;
-mod lex;
+
 mod lines;
 mod name;
 mod number;
+mod pass;
 mod piece;
 mod sign;
 mod string;
 mod token;
 
+pub use pass::lex;
 pub use token::{Token, TokenKind, Tokens};

@@ -4,7 +4,7 @@ ghost use Rattle.std.specs.List.{filter, list_any};
 ghost use Rattle.std.specs.Option.{ForSome};
 ghost use Rattle.pyx_lex.specs.Breaches.{breach};
 ghost use Rattle.pyx_lex.specs.Laid.{IsAt, Puts, Takes, TabFits};
-ghost use Rattle.pyx_lex.specs.Layout.{Place, start_place, gives, none, begins_line, behind_blanks, behind_other, before_token, dedents, level_items, depth_behind, also_gives, token, found, rule_of, ended_line, comment_items, given_by, given_at, last_newline, items_at_end};
+ghost use Rattle.pyx_lex.specs.Layout.{Place, start_place, gives, none, begins_line, behind_blanks, behind_join, behind_comment, before_token, dedents, level_items, depth_behind, also_gives, token, found, rule_of, ended_line, comment_items, given_by, given_at, last_newline, items_at_end};
 ghost use Rattle.pyx_lex.specs.Pieces.{placed};
 ghost use Rattle.pyx_lex.specs.declared.token.Token.{Token as TokenValue};
 ghost use Rattle.pyx_lex.specs.Levels.{open_widths, open_above, is_wider, is_open, width_before, last_of};
@@ -91,15 +91,26 @@ fn line_behind_blanks(line: Line, start: u32, indentation: Indentation) -> Line
     }
 }
 
-fn line_behind_other(line: Line) -> Line
-    ensures { result ≡ behind_other line }
+const NONE: Indentation = Indentation {
+    spaces: 0,
+    tab: None,
+};
+
+fn line_behind_join(line: Line) -> Line
+    ensures { result ≡ behind_join line }
 {
     match line {
-        Line::Fresh => Line::Indented(Indentation {
-            spaces: 0,
-            tab: None,
-        }),
+        Line::Fresh => Line::Indented(NONE),
         _ => line,
+    }
+}
+
+fn line_behind_comment(line: Line) -> Line
+    ensures { result ≡ behind_comment line }
+{
+    match line {
+        Line::Begun => Line::Begun,
+        _ => Line::Indented(NONE),
     }
 }
 
@@ -227,13 +238,7 @@ impl Lines {
         ensures { (place : Place) → IsAt self.old place → IfOk result (λ broken. Takes broken out.old.items out.new.items self.new (before_token place.line place at)) }
     {
         match self.line {
-            Line::Fresh => {
-                let none = Indentation {
-                    spaces: 0,
-                    tab: None,
-                };
-                self.begin_line(out, none, at)
-            }
+            Line::Fresh => self.begin_line(out, NONE, at),
             Line::Indented(indentation) => self.begin_line(out, indentation, at),
             Line::Begun => Ok(None),
         }
@@ -302,9 +307,9 @@ impl Lines {
 
     fn comment(&mut self, refused: bool, at: u32) -> Option<Breach>
         ensures { (place : Place) → IsAt self.old place → (out : List TokenValue) →
-            Takes result out out self.new (gives (comment_items refused place.widths at) (record place { line = behind_other place.line })) }
+            Takes result out out self.new (gives (comment_items refused place.widths at) (record place { line = behind_comment place.line })) }
     {
-        self.line = line_behind_other(self.line);
+        self.line = line_behind_comment(self.line);
         if refused && !self.begun {
             Some(Breach {
                 rule: 8,
@@ -337,7 +342,7 @@ impl Lines {
             Shape::Comment(refused) => Ok(self.comment(refused, start)),
             Shape::LineEnd => self.end_line(out, start, end),
             Shape::Join => {
-                self.line = line_behind_other(self.line);
+                self.line = line_behind_join(self.line);
                 Ok(None)
             }
             Shape::Spelled(kind) => self.spelled(out, kind, start, end),

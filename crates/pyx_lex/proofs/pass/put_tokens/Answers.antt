@@ -5,8 +5,8 @@ use Rattle.pyx_lex.specs.Laid.{TabFits}
 use Rattle.pyx_lex.specs.Layout.{start_place}
 use Rattle.pyx_lex.proofs.Boundaries.{IsCut, piece_cut}
 use Rattle.pyx_lex.proofs.Forward.{Goes, goes_next, goes_wrong, ends_broken, ends, tab_fits, depth_within}
-use Rattle.pyx_lex.proofs.lex.put_tokens.Goals as goal
-use Rattle.pyx_lex.proofs.lex.put_tokens.Goals.{In_ok-piece, In_ok-found}
+use Rattle.pyx_lex.proofs.pass.put_tokens.Goals as goal
+use Rattle.pyx_lex.proofs.pass.put_tokens.Goals.{In_ok-piece, In_ok-found}
 
 some_left : (c : In_ok-piece) → 0 < length c.loop-rest.rest.now
 some_left c = grind (arith, nat_tests)

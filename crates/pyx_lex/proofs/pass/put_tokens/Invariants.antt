@@ -5,7 +5,7 @@ use Rattle.pyx_lex.specs.Laid.{with_front, read}
 use Rattle.pyx_lex.specs.Layout.{items_from, start_place}
 use Rattle.pyx_lex.specs.Pieces.{pieces_from}
 use Rattle.pyx_lex.proofs.Forward.{Goes}
-use Rattle.pyx_lex.proofs.lex.put_tokens.Given as goal
+use Rattle.pyx_lex.proofs.pass.put_tokens.Given as goal
 
 abbrev pub invariant-loop-rest : goal.invariant-loop-rest
 invariant-loop-rest l =
