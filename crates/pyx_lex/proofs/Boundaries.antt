@@ -1,12 +1,12 @@
 -- Each piece takes at least a byte and ends between two characters.
-use Rattle.std.proofs.Common.{◌≡◌, ℕ, suc, zero, ◌+◌, ◌-◌, ◌<◌, ◌≤◌, ◌⊎◌, inl, inr, Bool, true, false, cond, not, ◌&&◌, ◌||◌, eqb, ltb, eq-eqb, List, [], ◌∷◌, ◌++◌, length, take, drop, get_or, refl, sym, ap, lit<, length-append, ◌∙◌, subst, arith, rules, tests}
+use Rattle.std.proofs.Common.{◌≡◌, ℕ, suc, zero, ◌+◌, ◌-◌, ◌<◌, ◌≤◌, ◌⊎◌, inl, inr, Bool, true, false, cond, not, ◌&&◌, ◌||◌, eqb, ltb, eq-eqb, List, [], ◌∷◌, ◌++◌, length, take, drop, get_or, refl, sym, ap, lit<, length-append, ◌∙◌, subst, arith}
 use Rattle.std.specs.Prelude.{chars, encode_utf8, encode_utf8_all, slice_index, nat_eq}
-use Rattle.std.specs.Char.{is_digit, digit_value, is_ascii_digit}
-use Rattle.std.specs.List.{prefix_len, list_any, list_all, starts_with}
+use Rattle.std.specs.Char.{is_digit, is_ascii_digit}
+use Rattle.std.specs.List.{prefix_len, list_all, starts_with}
 use Rattle.std.specs.Str.{IsUtf8, IsCharBoundary, all_scalars}
 use Rattle.unicode_ident.specs.Ident.{is_xid_start, is_xid_continue}
 use Rattle.unicode_ident.proofs.IdentLemmas.{is_xid_start-is_xid_continue, is_xid_continue-ascii}
-use Rattle.std.proofs.lemmas.Bool.{ne_eqb, cases_lt, cases_Bool, or_cases}
+use Rattle.std.proofs.lemmas.Bool.{cases_lt, cases_Bool, or_cases}
 use Rattle.std.proofs.lemmas.Bool.Decides.{nat_tests, Decides-eqb}
 use Rattle.std.proofs.lemmas.List.{length-take-le, take-append-drop, length-drop, get_or-drop}
 use Rattle.std.proofs.lemmas.List.Prefix.{front_reads}
@@ -19,8 +19,8 @@ use Rattle.pyx_lex.specs.declared.piece.Piece.{Piece}
 use Rattle.pyx_lex.specs.Pieces.{first_len, piece_at, blanks_piece, backslash_piece, comment_piece, number_piece, name_piece, string_piece, sign_piece}
 use Rattle.pyx_lex.specs.Signs.{begins_with, signs_of_three, signs_of_two, is_one, sign_len}
 use Rattle.pyx_lex.specs.declared.string.Opening.{Opening}
-use Rattle.pyx_lex.specs.Strings.{is_quote, is_prefix, begins_string, prefix_of, are_three, opening_at, closing_len, closes, stops, takes_next, inside_len, inside_of, behind_inside, is_open, is_closed, string_len}
-use Rattle.pyx_lex.specs.Numbers.{digits_len, letter_base, prefix_base, has_base, number_base, number_prefix, number_digits, number_len}
+use Rattle.pyx_lex.specs.Strings.{is_quote, is_prefix, begins_string, are_three, opening_at, closing_len, closes, stops, takes_next, inside_len, inside_of, behind_inside, is_closed, string_len}
+use Rattle.pyx_lex.specs.Numbers.{digits_len, prefix_base, has_base, number_base, number_prefix, number_digits, number_len}
 
 cut_after : (text : List ℕ) (n : ℕ) → IsUtf8 text → 0 < n → n ≤ length text → get_or text (n - 1) 0 < 128 → IsCharBoundary text n
 cut_after text n utf8 pos le ascii =
@@ -86,6 +86,7 @@ line_end_cut text utf8 = go (eqb (get_or text 0 0) 10) refl
     two : (t : Bool) → (eqb (get_or text 0 0) 13 && eqb (get_or text 1 0) 10) ≡ t → IsCharBoundary text (cond t 2 0)
     two true h = cut_behind text 1 10 utf8 (and_right _ _ h) (omega arith) (omega arith)
     two false h = IsCharBoundary-start text utf8
+
     go : (t : Bool) → eqb (get_or text 0 0) 10 ≡ t → IsCharBoundary text (cond t 1 (cond (eqb (get_or text 0 0) 13 && eqb (get_or text 1 0) 10) 2 0))
     go true h = cut_behind text 0 10 utf8 h (omega arith) (omega arith)
     go false h = two (eqb (get_or text 0 0) 13 && eqb (get_or text 1 0) 10) refl
@@ -141,6 +142,7 @@ digits_ascii base (b ∷ rest) i small lt = go (cases_Bool (is_digit b base || (
   where
     run_byte : (is_digit b base || (eqb b 95 && is_digit (get_or rest 0 0) base)) ≡ true → b < 128
     run_byte h = grind (arith, nat_tests)
+
     go : ((is_digit b base || (eqb b 95 && is_digit (get_or rest 0 0) base)) ≡ true) ⊎ ((is_digit b base || (eqb b 95 && is_digit (get_or rest 0 0) base)) ≡ false)
         → (i : ℕ) → i < digits_len base (b ∷ rest) → ((j : ℕ) → j < digits_len base rest → get_or rest j 0 < 128) → get_or (b ∷ rest) i 0 < 128
     go (inl h) zero lt more = run_byte h
@@ -178,6 +180,7 @@ number_some (b ∷ rest) h = go (has_base (b ∷ rest)) refl
     plain : (t : Bool) → eqb b 48 ≡ t → 0 < digits_len (cond t 1 10) (b ∷ rest)
     plain true e = digits_begin 1 b rest (grind (arith, nat_tests))
     plain false e = digits_begin 10 b rest (grind (arith, nat_tests))
+
     go : (t : Bool) → has_base (b ∷ rest) ≡ t
         → 0 < digits_len (cond t (prefix_base (b ∷ rest)) (cond (eqb b 48) 1 10)) (drop (cond t 2 0) (b ∷ rest))
     go true e =
@@ -196,9 +199,9 @@ pub chars_cut : (text : List ℕ) (n : ℕ) → IsUtf8 text → IsCharBoundary t
 chars_cut text n utf8 =
     let cs : List ℕ = chars text in
     let parts : text ≡ encode_utf8_all (take n cs) ++ encode_utf8_all (drop n cs) =
-        sym (encodes-chars text utf8) ∙ (ap encode_utf8_all (sym (take-append-drop n cs)) ∙ encodes-append (take n cs) (drop n cs)) in
+    sym (encodes-chars text utf8) ∙ (ap encode_utf8_all (sym (take-append-drop n cs)) ∙ encodes-append (take n cs) (drop n cs)) in
     let fine : all_scalars (drop n cs) ≡ true =
-        scalars_append (take n cs) (drop n cs) (ap all_scalars (take-append-drop n cs) ∙ scalars-chars text utf8) in
+    scalars_append (take n cs) (drop n cs) (ap all_scalars (take-append-drop n cs) ∙ scalars-chars text utf8) in
     IsCharBoundary-at_seam text (encode_utf8_all (take n cs)) (encode_utf8_all (drop n cs)) parts (drop n cs, (fine, refl))
 
 first_bytes : (n c : ℕ) (cs : List ℕ) → 0 < n → 0 < length (encode_utf8_all (take n (c ∷ cs)))
@@ -270,9 +273,11 @@ sign_cut text utf8 = go (begins_with text signs_of_three) refl
     one : (t : Bool) → is_one (get_or text 0 0) ≡ t → IsCharBoundary text (cond t 1 0)
     one true h = sign_cut_at 1 text utf8 (lit< tt) (one_byte (get_or text 0 0) h)
     one false h = IsCharBoundary-start text utf8
+
     two : (t : Bool) → begins_with text signs_of_two ≡ t → IsCharBoundary text (cond t 2 (cond (is_one (get_or text 0 0)) 1 0))
     two true h = sign_cut_at 2 text utf8 (lit< tt) (sign_byte 2 text signs_of_two (lit< tt) refl h)
     two false h = one (is_one (get_or text 0 0)) refl
+
     go : (t : Bool) → begins_with text signs_of_three ≡ t → IsCharBoundary text (cond t 3 (cond (begins_with text signs_of_two) 2 (cond (is_one (get_or text 0 0)) 1 0)))
     go true h = sign_cut_at 3 text utf8 (lit< tt) (sign_byte 3 text signs_of_three (lit< tt) refl h)
     go false h = two (begins_with text signs_of_two) refl
@@ -296,12 +301,14 @@ opening_quote text h = go (is_quote (get_or text 0 0)) refl
     at prefix false e =
         let place : prefix ≡ prefix + 1 - 1 = omega arith in
         (subst (λ i. eqb (get_or text i 0) (get_or text prefix 0) ≡ true) place (eq-eqb (get_or text prefix 0) (get_or text prefix 0) refl), omega arith)
+
     second : is_quote (get_or text 0 0) ≡ false → is_quote (get_or text 1 0) ≡ true
     second none =
         elim (or_cases (is_quote (get_or text 0 0)) (is_prefix (get_or text 0 0) && is_quote (get_or text 1 0)) h) [
-          inl e ↦ absurd (cc)
-        | inr e ↦ and_right _ _ e
+          | inl e ↦ absurd (cc)
+          | inr e ↦ and_right _ _ e
         ]
+
     go : (t : Bool) → is_quote (get_or text 0 0) ≡ t
         → (is_quote (get_or text (cond t 0 1) 0) ≡ true)
         × (eqb (get_or text (cond t 0 1 + cond (are_three (get_or text (cond t 0 1) 0) (drop (cond t 0 1) text)) 3 1 - 1) 0) (get_or text (cond t 0 1) 0) ≡ true)
@@ -326,6 +333,7 @@ inside_stops o taken (b ∷ rest) lt =
   where
     n : ℕ
     n = inside_len o (takes_next o taken b) rest
+
     go : (t : Bool) → (not taken && stops o (b ∷ rest)) ≡ t
         → (inside_len o (takes_next o taken b) rest < length rest → stops o (drop (inside_len o (takes_next o taken b) rest) rest) ≡ true)
         → cond t 0 (1 + inside_len o (takes_next o taken b) rest) < length (b ∷ rest)
@@ -381,12 +389,12 @@ inside_cut text utf8 h = go (cases_lt (inside_bytes text) (length (behind_openin
     go (inl lt) =
         let ascii = stops_ascii (opening_at text) (drop (inside_bytes text) (behind_opening text)) (opening_quote text h).0 (inside_stops (opening_at text) false (behind_opening text) lt) in
         let place : get_or (drop (inside_bytes text) (behind_opening text)) 0 0 ≡ get_or text ((opening_at text).len + inside_bytes text) 0 =
-            first_behind (behind_opening text) (inside_bytes text) ∙ get_or-drop (opening_at text).len text (inside_bytes text) 0 in
+        first_behind (behind_opening text) (inside_bytes text) ∙ get_or-drop (opening_at text).len text (inside_bytes text) 0 in
         IsCharBoundary-before_ascii text ((opening_at text).len + inside_bytes text) (omega (arith, length-drop (opening_at text).len text)) (omega arith)
     go (inr le) =
         let len : (opening_at text).len ≤ length text = (opening_cut text utf8 h).0 in
         let same : length text ≡ (opening_at text).len + inside_bytes text =
-            omega (arith, length-drop (opening_at text).len text, inside_len_le (opening_at text) false (behind_opening text)) in
+        omega (arith, length-drop (opening_at text).len text, inside_len_le (opening_at text) false (behind_opening text)) in
         subst (IsCharBoundary text) same (IsCharBoundary-end text)
 
 behind_sum : (a i n c : ℕ) → n ≡ i → 0 < c → a + (i + (c - 1)) + 1 ≡ a + n + c
@@ -400,6 +408,7 @@ string_cut text utf8 h = go (is_closed text) refl
   where
     inside : length (inside_of text) ≡ inside_bytes text
     inside = length-take-le (inside_bytes text) (behind_opening text) (inside_len_le (opening_at text) false (behind_opening text))
+
     go : (t : Bool) → is_closed text ≡ t
         → IsCharBoundary text ((opening_at text).len + length (inside_of text) + cond t (closing_len (opening_at text)) 0)
     go true e =
@@ -407,9 +416,9 @@ string_cut text utf8 h = go (is_closed text) refl
         let small = quote_small o.quote (opening_quote text h).0 in
         let last : eqb (get_or (behind_inside text) (closing_len o - 1) 0) o.quote ≡ true = closes_last o (behind_inside text) (and_right _ _ e) in
         let place : get_or (behind_inside text) (closing_len o - 1) 0 ≡ get_or text (o.len + (inside_bytes text + (closing_len o - 1))) 0 =
-            get_or-drop (inside_bytes text) (behind_opening text) (closing_len o - 1) 0 ∙ get_or-drop o.len text (inside_bytes text + (closing_len o - 1)) 0 in
+        get_or-drop (inside_bytes text) (behind_opening text) (closing_len o - 1) 0 ∙ get_or-drop o.len text (inside_bytes text + (closing_len o - 1)) 0 in
         let same : o.len + (inside_bytes text + (closing_len o - 1)) + 1 ≡ o.len + length (inside_of text) + closing_len o =
-            behind_sum o.len (inside_bytes text) (length (inside_of text)) (closing_len o) inside (closing_some o) in
+        behind_sum o.len (inside_bytes text) (length (inside_of text)) (closing_len o) inside (closing_some o) in
         subst (IsCharBoundary text) same
         (cut_behind text (o.len + (inside_bytes text + (closing_len o - 1))) o.quote utf8 (subst (λ b. eqb b o.quote ≡ true) place last) small.1 small.0)
     go false e =
@@ -461,6 +470,6 @@ piece_cut broken after_name text utf8 some =
     pick text (eqb (get_or text 0 0) 35) _ _ (λ h. (line_cut text utf8, comment_some text some no_end)) (λ no_comment.
     pick text (begins_string text) _ _ (λ h. (string_cut text utf8 h, omega (arith, (opening_quote text h).2))) (λ no_string.
     pick text (is_ascii_digit (get_or text 0 0)) _ _
-      (λ h. let digits = number_some text h in (number_cut text utf8 digits, omega arith)) (λ no_number.
+    (λ h. let digits = number_some text h in (number_cut text utf8 digits, omega arith)) (λ no_number.
     pick text (begins_name text) _ _ (λ h. (chars_cut text (prefix_len is_xid_continue (chars text)) utf8, name_some text h)) (λ no_name.
     sign_or_stray text utf8 some)))))))

@@ -1,12 +1,12 @@
 -- How the characters of an inside are read part by part.
-use Rattle.std.proofs.Common.{◌≡◌, ℕ, zero, suc, ◌+◌, ◌-◌, ◌<◌, ◌≤◌, Bool, true, false, cond, eqb, List, [], ◌∷◌, ◌++◌, length, take, drop, get_or, refl, sym, ap, ◌∙◌, arith, append_assoc, append-nil, subst, Option, Some, None}
+use Rattle.std.proofs.Common.{◌≡◌, ℕ, zero, suc, ◌+◌, ◌-◌, ◌<◌, ◌≤◌, Bool, true, false, eqb, List, [], ◌∷◌, ◌++◌, length, take, drop, refl, sym, ap, ◌∙◌, arith, append_assoc, append-nil, Option, Some, None}
 use Rattle.std.specs.Prelude.{encode_utf8_all, chars, option_to_list}
 use Rattle.std.specs.Option.{option_map}
 use Rattle.std.specs.Str.{IsUtf8, NonePass, NoCharPasses}
-use Rattle.std.proofs.lemmas.Str.{encodes-append, encodes-chars, chars_from_encodes}
+use Rattle.std.proofs.lemmas.Str.{encodes-append, chars_from_encodes}
 use Rattle.std.proofs.lemmas.List.{drop-drop, length-drop, drop_all, take_all}
 use Rattle.pyx_lex.specs.declared.escape.Part.{Part}
-use Rattle.pyx_lex.specs.Strings.{part, part_at, put_before, put_part, unescaped, inside_value}
+use Rattle.pyx_lex.specs.Strings.{part_at, put_before, put_part, unescaped, inside_value}
 
 -- characters that are still to be passed are passed
 passed : (k : ℕ) (cs : List ℕ) → unescaped k cs ≡ unescaped 0 (drop k cs)

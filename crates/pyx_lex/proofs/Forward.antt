@@ -1,27 +1,24 @@
 -- One pass forward: what is found so far and what is still to come.
-use Rattle.std.proofs.Common.{◌≡◌, ℕ, zero, suc, ◌+◌, ◌-◌, ◌<◌, ◌≤◌, ◌^◌, arith, cond, ltb, eqb, Bool, true, false, ◌&&◌, ltb-true, List, [], ◌∷◌, ◌++◌, length, take, drop, get_or, refl, sym, ap, ◌∙◌, subst, Option, Some, None, Result, Ok, Err}
-use Rattle.std.specs.Prelude.{chars}
+use Rattle.std.proofs.Common.{◌≡◌, ℕ, zero, suc, ◌+◌, ◌-◌, ◌<◌, ◌≤◌, ◌^◌, arith, cond, ltb, eqb, Bool, true, false, ◌&&◌, ltb-true, List, [], ◌∷◌, length, take, drop, get_or, refl, sym, ap, ◌∙◌, subst, Option, Some, None, Result, Ok, Err}
 use Rattle.std.specs.Char.{is_ascii_digit}
 use Rattle.std.specs.List.{prefix_len, position, position_or_len}
 use Rattle.std.specs.Option.{ForSome}
-use Rattle.std.specs.Str.{IsUtf8, IsCharBoundary}
-use Rattle.std.proofs.lemmas.Bool.Decides.{nat_tests}
-use Rattle.std.proofs.lemmas.List.{length-take-le, length-drop}
+use Rattle.std.proofs.lemmas.List.{length-take-le}
 use Rattle.std.proofs.lemmas.List.Sums.{prefix_len-le-length}
 use Rattle.pyx_lex.specs.declared.lines.Breach.{Breach}
 use Rattle.pyx_lex.specs.declared.lines.Lines.{Lines}
 use Rattle.pyx_lex.specs.declared.piece.Piece.{Piece}
 use Rattle.pyx_lex.specs.declared.piece.Shape.{Shape}
-use Rattle.pyx_lex.specs.declared.piece.Shape.TheVariants.{Blanks, Comment, LineEnd, Join, Spelled, Faulty, Stray, Cut}
+use Rattle.pyx_lex.specs.declared.piece.Shape.TheVariants.{Comment, Spelled, Faulty, Cut}
 use Rattle.pyx_lex.specs.declared.piece.Fault.TheVariants as fault
 use Rattle.pyx_lex.specs.declared.token.Token.{Token}
 use Rattle.pyx_lex.specs.declared.token.TokenKind.TheVariants.{Name, Word, Int}
-use Rattle.pyx_lex.specs.Blanks.{is_blank, blanks, line_end_len, is_line_end, line_len, is_refused_directive}
+use Rattle.pyx_lex.specs.Blanks.{is_blank, blanks, is_line_end, line_len, is_refused_directive}
 use Rattle.pyx_lex.specs.Laid.{IsAt, with_front, read, Puts, Takes, TabFits}
-use Rattle.pyx_lex.specs.Layout.{Item, Found, Place, given_at, items_from, items_at_end}
+use Rattle.pyx_lex.specs.Layout.{Place, given_at, items_from, items_at_end}
 use Rattle.pyx_lex.specs.Names.{begins_name, name_at, is_reserved, is_wrong_name}
 use Rattle.pyx_lex.specs.Numbers.{number_len, number_value, is_wrong_number}
-use Rattle.pyx_lex.specs.Pieces.{placed, piece, pieces_from, piece_at, is_name, blanks_piece, backslash_piece, comment_piece, number_piece, number_shape, name_piece, name_shape, string_piece, string_shape, sign_piece}
+use Rattle.pyx_lex.specs.Pieces.{placed, pieces_from, piece_at, is_name, blanks_piece, backslash_piece, comment_piece, number_piece, number_shape, name_piece, name_shape, string_piece, string_shape, sign_piece}
 use Rattle.pyx_lex.specs.Signs.{sign_len}
 use Rattle.pyx_lex.specs.Strings.{begins_string, is_open, string_value}
 use Rattle.pyx_lex.proofs.Reading.{read_err, read_more, front_err, deeper}
@@ -69,8 +66,8 @@ goes_on broken after_name end at rest lines next out more whole p some same pos 
       place = (given_at (placed p at) goes.place).next;
       here = takes.1;
       same =
-        sym (read_more out more (given_at (placed p at) goes.place).items _ takes.0)
-        ∙ (ap (λ ps. with_front out (read (items_from broken end goes.place ps))) (sym (front_piece broken after_name at rest p some same pos)) ∙ goes.same);
+          sym (read_more out more (given_at (placed p at) goes.place).items _ takes.0)
+          ∙ (ap (λ ps. with_front out (read (items_from broken end goes.place ps))) (sym (front_piece broken after_name at rest p some same pos)) ∙ goes.same);
     }
 
 pub goes_next : (broken after_name after : Bool) (end at : ℕ) (rest behind : List ℕ) (lines next : Lines) (out more : List Token) (whole : Result (List Token) Breach) (p : Piece)
@@ -170,7 +167,7 @@ pub tab_fits : (broken after_name : Bool) (text : List ℕ) (start n : ℕ) → 
 unfolding piece_at blanks_piece backslash_piece comment_piece number_piece name_piece string_piece sign_piece
 tab_fits broken after_name text start n le small =
     tab_pick start (is_blank (get_or text 0 0)) _ _
-      (λ h. position_fits start (blanks text) n (omega (arith, length-take-le (prefix_len is_blank text) text (prefix_len-le-length is_blank text), prefix_len-le-length is_blank text)) small) (λ h.
+    (λ h. position_fits start (blanks text) n (omega (arith, length-take-le (prefix_len is_blank text) text (prefix_len-le-length is_blank text), prefix_len-le-length is_blank text)) small) (λ h.
     tab_pick start (is_line_end text) _ _ (λ h. tt) (λ h.
     tab_pick start (eqb (get_or text 0 0) 92) _ _ (λ h. tab_pick start (is_line_end (drop 1 text)) _ _ (λ h. tt) (λ h. tt)) (λ h.
     tab_pick start (eqb (get_or text 0 0) 35) _ _ (λ h. shape_pick start (broken && eqb (length text) (line_len text)) Cut (Comment (is_refused_directive (take (line_len text) text))) tt tt) (λ h.

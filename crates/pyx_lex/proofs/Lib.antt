@@ -1,6 +1,7 @@
 mod Boundaries
 mod Digits
 mod Escapes
+mod Few
 mod Forward
 mod Fronts
 mod Normal

@@ -1,5 +1,5 @@
 -- Open widths, looked back for and listed.
-use Rattle.std.proofs.Common.{◌≡◌, ℕ, zero, suc, ◌⊎◌, inl, inr, ◌+◌, ◌-◌, ◌<◌, ◌≤◌, Bool, true, false, cond, not, ◌&&◌, ◌||◌, eqb, ltb, eq-eqb, lt-ltb, le-ltb, Ok, Err, List, [], ◌∷◌, ◌++◌, length, get_or, refl, sym, ap, ◌∙◌, arith, length-append, Option, Some, None, replicate}
+use Rattle.std.proofs.Common.{◌≡◌, ℕ, zero, suc, ◌⊎◌, inl, inr, ◌-◌, ◌<◌, ◌≤◌, Bool, true, false, cond, ◌&&◌, ◌||◌, eqb, ltb, eq-eqb, lt-ltb, le-ltb, Ok, Err, List, [], ◌∷◌, ◌++◌, length, get_or, refl, sym, ap, ◌∙◌, arith, length-append, replicate}
 use Rattle.std.specs.List.{filter, list_any}
 use Rattle.std.proofs.lemmas.Bool.{cases_eq, ne_eqb}
 use Rattle.std.proofs.lemmas.List.{get_or_push}
@@ -7,8 +7,8 @@ use Rattle.std.proofs.lemmas.Bool.Decides.{nat_tests}
 use Rattle.pyx_lex.specs.declared.token.Token.{Token}
 use Rattle.pyx_lex.specs.declared.token.TokenKind.TheVariants.{Indent, Dedent}
 use Rattle.pyx_lex.specs.Breaches.{breach}
-use Rattle.pyx_lex.specs.Laid.{with_front, read, Puts}
-use Rattle.pyx_lex.specs.Layout.{Item, Comes, Found, level_items, dedents}
+use Rattle.pyx_lex.specs.Laid.{with_front, read}
+use Rattle.pyx_lex.specs.Layout.{Comes, level_items}
 use Rattle.pyx_lex.specs.Levels.{is_open, open_widths, width_before, is_wider, open_above, last_of}
 
 any_append : (w : ℕ) (xs ys : List ℕ) → list_any (λ v. eqb v w) (xs ++ ys) ≡ (list_any (λ v. eqb v w) xs || list_any (λ v. eqb v w) ys)
@@ -30,6 +30,7 @@ any_filter w u (x ∷ xs) = go (ltb x u) (eqb x w) refl refl (any_filter w u xs)
   where
     same : eqb x w ≡ true → ltb x u ≡ ltb w u
     same h = let e : x ≡ w = grind (arith, nat_tests) in ap (λ v. ltb v u) e
+
     go : (t e : Bool) → ltb x u ≡ t → eqb x w ≡ e → list_any (λ v. eqb v w) (filter (λ v. ltb v u) xs) ≡ (ltb w u && list_any (λ v. eqb v w) xs)
         → list_any (λ v. eqb v w) (cond t (x ∷ filter (λ v. ltb v u) xs) (filter (λ v. ltb v u) xs)) ≡ (ltb w u && (e || list_any (λ v. eqb v w) xs))
     go true true ht he h = rw he (let less : ltb w u ≡ true = sym (same he) ∙ ht in rw less refl)

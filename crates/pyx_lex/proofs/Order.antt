@@ -1,10 +1,10 @@
 -- The breaches come in their order, so the first that is found is the first of all.
-use Rattle.std.proofs.Common.{◌≡◌, ℕ, zero, suc, ◌+◌, ◌-◌, ◌<◌, ◌≤◌, ◌⊎◌, inl, inr, arith, cond, ltb, ltb-true, eqb, Bool, true, false, not, ◌&&◌, List, [], ◌∷◌, ◌++◌, length, take, drop, get_or, replicate, refl, sym, ap, ◌∙◌, subst, append_assoc, append-nil, Option, Some, None, Result, Ok, Err}
-use Rattle.std.specs.Prelude.{Contains, All}
+use Rattle.std.proofs.Common.{◌≡◌, ℕ, zero, suc, ◌+◌, ◌-◌, ◌<◌, ◌≤◌, ◌⊎◌, inl, inr, arith, cond, ltb, ltb-true, lt-ltb, le-ltb, eqb, Bool, true, false, ◌&&◌, List, [], ◌∷◌, ◌++◌, length, take, drop, get_or, replicate, refl, sym, ap, ◌∙◌, subst, append_assoc, append-nil, Option, Some, None, Result, Ok, Err}
+use Rattle.std.specs.Prelude.{All, IfSome}
 use Rattle.std.specs.List.{AllByRecursion, prefix_len, position, position_or_len}
 use Rattle.std.specs.Char.{is_ascii_digit}
 use Rattle.std.specs.Option.{ForSome}
-use Rattle.std.proofs.lemmas.List.{length-take-le}
+use Rattle.std.proofs.lemmas.List.{length-take-le, length-drop}
 use Rattle.std.proofs.lemmas.List.Sums.{prefix_len-le-length}
 use Rattle.std.proofs.lemmas.List.Elements.{All-cons}
 use Rattle.pyx_lex.specs.declared.lines.Breach.{Breach}
@@ -18,19 +18,27 @@ use Rattle.pyx_lex.specs.declared.piece.Shape.{Shape}
 use Rattle.pyx_lex.specs.declared.piece.Shape.TheVariants.{Blanks, Comment, LineEnd, Join, Spelled, Faulty, Stray, Cut}
 use Rattle.pyx_lex.specs.declared.token.Token.{Token}
 use Rattle.pyx_lex.specs.declared.token.TokenKind.{TokenKind}
-use Rattle.pyx_lex.specs.declared.token.TokenKind.TheVariants.{Name, Word, Int, Newline, Indent, Dedent, End}
+use Rattle.pyx_lex.specs.declared.token.TokenKind.TheVariants.{Name, Word, Int, Newline, Indent, End}
 use Rattle.pyx_lex.specs.Blanks.{is_blank, blanks, is_line_end, line_len, is_refused_directive}
 use Rattle.pyx_lex.specs.Breaches.{breach, IsNotAfter, IsFirst}
-use Rattle.pyx_lex.specs.Laid.{with_front, read}
-use Rattle.pyx_lex.specs.Layout.{Item, Comes, Found, token, found, Place, Given, gives, none, moved, behind_blanks, behind_join, behind_comment, tab_items, dedents, level_items, line_items, begins_line, before_token, depth_behind, also_gives, rule_of, start_place, ended_line, comment_items, is_before_tokens, given_by, given_at, last_newline, items_at_end, items_from}
+use Rattle.pyx_lex.specs.Laid.{with_front, read, Puts}
+use Rattle.pyx_lex.specs.Layout.{Item, Comes, Found, token, found, Place, Given, gives, none, moved, behind_blanks, behind_join, behind_comment, tab_items, dedents, level_items, line_items, before_token, rule_of, start_place, ended_line, comment_items, is_before_tokens, given_by, given_at, last_newline, items_at_end, items_from}
 use Rattle.pyx_lex.specs.Levels.{is_wider, is_open, open_above}
-use Rattle.pyx_lex.specs.Pieces.{Placed, placed, piece_at, pieces_from, is_name, blanks_piece, backslash_piece, comment_piece, number_piece, number_shape, name_piece, name_shape, string_piece, string_shape, sign_piece}
+use Rattle.pyx_lex.specs.Pieces.{piece_at, pieces_from, is_name, blanks_piece, backslash_piece, comment_piece, number_piece, number_shape, name_piece, name_shape, string_piece, string_shape, sign_piece}
 use Rattle.pyx_lex.specs.Names.{begins_name, name_at, is_reserved, is_wrong_name}
 use Rattle.pyx_lex.specs.Numbers.{number_len, number_value, is_wrong_number}
 use Rattle.pyx_lex.specs.Signs.{sign_len}
 use Rattle.pyx_lex.specs.Strings
 use Rattle.pyx_lex.specs.Strings.{begins_string, string_value}
-use Rattle.pyx_lex.specs.Tokens.{tokens_among, breaches_among}
+use Rattle.pyx_lex.specs.Tokens.{tokens_among, breaches_among, mark_len, items_of_text, items, is_broken, valid_text, limit, breaches}
+use Rattle.pyx_lex.specs.Names.{first_passes}
+use Rattle.pyx_lex.proofs.Boundaries.{byte_is, chars_cut}
+use Rattle.std.specs.Prelude.{chars, encode_utf8, encode_utf8_all}
+use Rattle.std.specs.Char.{len_utf8}
+use Rattle.std.specs.Str.{IsUtf8, IsCharBoundary}
+use Rattle.std.specs.Str.Lossy.{utf8_valid_len}
+use Rattle.std.proofs.Math.Seq.{take-length}
+use Rattle.std.proofs.lemmas.Str.{IsCharBoundary-start, length-encode, utf8_valid_len-IsUtf8}
 
 -- ---- lists of breaches
 
@@ -66,9 +74,9 @@ runs_lower lo hi bs le r = record { from = from_lower lo hi bs le r.from; ordere
 -- a breach before later ones
 runs_cons : (lo : ℕ) (b : Breach) (hi : ℕ) (bs : List Breach) → lo ≤ b.offset → b.offset < hi → Runs hi bs → Runs lo (b ∷ bs)
 runs_cons lo b hi bs le lt r = record {
-    from = (le, from_lower lo hi bs (omega arith) r.from);
-    ordered = (after_from b hi bs lt r.from, r.ordered);
-  }
+  from = (le, from_lower lo hi bs (omega arith) r.from);
+  ordered = (after_from b hi bs lt r.from, r.ordered);
+}
 
 breaches_append : (xs ys : List Item) → breaches_among (xs ++ ys) ≡ breaches_among xs ++ breaches_among ys
 breaches_append [] ys = refl
@@ -122,6 +130,7 @@ line_runs indentation widths at own before from ordered first = go indentation.t
         by_level (inr e) =
             subst (Runs at) (ap (λ bs. bs ++ own) (sym e))
             (record { from = (omega arith, from); ordered = (first (breach 3 at) refl (omega arith), ordered) })
+
     go : (tab : Option ℕ) → indentation.tab ≡ tab → ForSome tab (λ t. t < at)
         → Runs (low_of tab at) (breaches_among (tab_items tab ++ level_items indentation.spaces widths at) ++ own)
     go None e b = level
@@ -188,22 +197,22 @@ module _ (place : Place) (at end : ℕ) (before : TabBefore place.line at) (more
       → Runs (low place.line at) (breaches_among ((before_token place.line place at).items ++ token kind at end ∷ []) ++ more)
   spelled_runs kind r =
       let parts : breaches_among ((before_token place.line place at).items ++ token kind at end ∷ []) ++ more ≡ breaches_among (before_token place.line place at).items ++ more =
-          ap (λ bs. bs ++ more) (breaches_append (before_token place.line place at).items (token kind at end ∷ []) ∙ append-nil (breaches_among (before_token place.line place at).items)) in
+      ap (λ bs. bs ++ more) (breaches_append (before_token place.line place at).items (token kind at end ∷ []) ∙ append-nil (breaches_among (before_token place.line place at).items)) in
       subst (Runs (low place.line at)) (sym parts)
       (before_runs place.line place at more before (from_lower at (at + 1) more (omega arith) r.from) r.ordered
-        (λ b same small. after_from b (at + 1) more (omega arith) r.from))
+      (λ b same small. after_from b (at + 1) more (omega arith) r.from))
 
   faulty_runs : (f : Fault) → Runs (at + 1) more
       → Runs (low place.line at) (breaches_among ((before_token place.line place at).items ++ found (rule_of f) at ∷ []) ++ more)
   faulty_runs f r =
       let parts : breaches_among ((before_token place.line place at).items ++ found (rule_of f) at ∷ []) ++ more ≡ breaches_among (before_token place.line place at).items ++ (breach (rule_of f) at ∷ more) =
-          ap (λ bs. bs ++ more) (breaches_append (before_token place.line place at).items (found (rule_of f) at ∷ []))
-          ∙ append_assoc (breaches_among (before_token place.line place at).items) (breach (rule_of f) at ∷ []) more in
+      ap (λ bs. bs ++ more) (breaches_append (before_token place.line place at).items (found (rule_of f) at ∷ []))
+      ∙ append_assoc (breaches_among (before_token place.line place at).items) (breach (rule_of f) at ∷ []) more in
       subst (Runs (low place.line at)) (sym parts)
       (before_runs place.line place at (breach (rule_of f) at ∷ more) before
-        (omega arith, from_lower at (at + 1) more (omega arith) r.from)
-        (after_from (breach (rule_of f) at) (at + 1) more (omega arith) r.from, r.ordered)
-        (λ b same small. (inr (same, omega (arith, rule_high f)), after_from b (at + 1) more (omega arith) r.from)))
+      (omega arith, from_lower at (at + 1) more (omega arith) r.from)
+      (after_from (breach (rule_of f) at) (at + 1) more (omega arith) r.from, r.ordered)
+      (λ b same small. (inr (same, omega (arith, rule_high f)), after_from b (at + 1) more (omega arith) r.from)))
 
   comment_runs : (refused : Bool) → Runs (at + 1) more → Runs (low place.line at) (breaches_among (comment_items refused place.widths at) ++ more)
   comment_runs refused r = go (refused && is_before_tokens place.widths)
@@ -218,6 +227,7 @@ module _ (place : Place) (at end : ℕ) (before : TabBefore place.line at) (more
       shift : (tab : Option ℕ) → at ≤ low_of (moved at tab) (at + 1)
       shift None = omega arith
       shift (Some j) = omega arith
+
       go : (line : Line) → low line at ≤ low (behind_blanks at indentation line) (at + 1)
       go Fresh = shift indentation.tab
       go (Indented i) = low_up (Indented i) at (at + 1) (omega arith)
@@ -247,6 +257,7 @@ module _ (place : Place) (at end : ℕ) (before : TabBefore place.line at) (more
     where
       ended : Bool → Given
       ended t = cond t (gives [] place) (gives (token Newline at end ∷ []) (record { widths = place.widths; line = Fresh; depth = 0 }))
+
       go : (t : Bool) → Runs (low (cond t (gives [] place) (gives (token Newline at end ∷ []) (record { widths = place.widths; line = Fresh; depth = 0 }))).next.line (at + 1)) more
           → Runs (low place.line at) (breaches_among (cond t (gives [] place) (gives (token Newline at end ∷ []) (record { widths = place.widths; line = Fresh; depth = 0 }))).items ++ more)
       go true r = runs_lower (low place.line at) (low place.line (at + 1)) more (low_up place.line at (at + 1) (omega arith)) r
@@ -278,6 +289,7 @@ shape_tab place at end n (Blanks indentation) len before le far within = go plac
     shift : (tab : Option ℕ) → ForSome tab (λ j. j < len) → ForSome (moved at tab) (λ t. t < n)
     shift None h = λ t e. absurd (cc)
     shift (Some j) h = λ t e. let same : at + j ≡ t = cc in let lt : j < len = h j refl in omega arith
+
     go : (line : Line) → TabBefore line at → TabBefore (behind_blanks at indentation line) n
     go Fresh h = shift indentation.tab within
     go (Indented i) h = tab_up (Indented i) at n le h
@@ -395,12 +407,12 @@ pieces_run broken after_name end (b ∷ rest) zero at place fits inside before =
     let here : TabBefore place.line at = subst (TabBefore place.line) same before in
     let next : Place = (given_by p.shape place at (at + p.len)).next in
     let inside_next : TabBefore next.line end =
-        shape_tab place at (at + p.len) end p.shape (length text) here (omega arith) fits (tab_within (λ _. length text) broken after_name text (blanks_le text)) in
+    shape_tab place at (at + p.len) end p.shape (length text) here (omega arith) fits (tab_within (λ _. length text) broken after_name text (blanks_le text)) in
     let before_next : TabBefore next.line (at + 1 + (p.len - 1)) =
-        shape_tab place at (at + p.len) (at + 1 + (p.len - 1)) p.shape p.len here (omega arith) (omega arith) (tab_within (λ q. q.len) broken after_name text (blanks_len text)) in
+    shape_tab place at (at + p.len) (at + 1 + (p.len - 1)) p.shape p.len here (omega arith) (omega arith) (tab_within (λ q. q.len) broken after_name text (blanks_len text)) in
     subst (Runs (low place.line at)) (sym (breaches_append (given_by p.shape place at (at + p.len)).items _))
     (shape_runs place at (at + p.len) here _ p.shape
-      (pieces_run broken (is_name p.shape) end rest (p.len - 1) (at + 1) next (omega arith) inside_next before_next))
+    (pieces_run broken (is_name p.shape) end rest (p.len - 1) (at + 1) next (omega arith) inside_next before_next))
 
 -- ---- what was read
 
@@ -445,3 +457,68 @@ pub read_first : (broken : Bool) (text : List ℕ) (at end : ℕ) (b : Breach) �
 read_first broken text at end b fits h =
     let found = read_breach (items_from broken end start_place (pieces_from broken false 0 at text)) b h in
     first_of b _ found.0 found.1 (pieces_run broken false end text 0 at start_place fits tt tt).ordered
+
+-- ---- files
+
+-- a byte order mark is a whole character
+pub mark_cut : (text : List ℕ) → IsUtf8 text → IsCharBoundary text (mark_len text)
+mark_cut text utf8 = go (chars text) refl
+  where
+    go : (cs : List ℕ) → chars text ≡ cs → IsCharBoundary text (cond (first_passes (λ c. eqb c 0xFEFF) cs) 3 0)
+    go [] e = IsCharBoundary-start text utf8
+    go (c ∷ cs) e = mark (eqb c 0xFEFF) refl
+      where
+        mark : (t : Bool) → eqb c 0xFEFF ≡ t → IsCharBoundary text (cond t 3 0)
+        mark true h =
+            let is : c ≡ 0xFEFF = byte_is c 0xFEFF h in
+            let three : length (encode_utf8_all (take 1 (chars text))) ≡ 3 =
+            ap (λ xs. length (encode_utf8_all (take 1 xs))) e ∙ (ap length (append-nil (encode_utf8 c)) ∙ (length-encode c ∙ ap len_utf8 is)) in
+            subst (IsCharBoundary text) three (chars_cut text 1 utf8)
+        mark false h = IsCharBoundary-start text utf8
+
+pub text_first : (broken : Bool) (text : List ℕ) (b : Breach) → IsUtf8 text → read (items_of_text broken text) ≡ Err b
+    → IsFirst b (breaches_among (items_of_text broken text))
+unfolding items_of_text
+text_first broken text b utf8 h =
+    read_first broken (drop (mark_len text) text) (mark_len text) (length text) b
+    (omega (arith, (mark_cut text utf8).0, length-drop (mark_len text) text)) h
+
+pub whole_file : (bytes : List ℕ) → IsUtf8 bytes → (is_broken bytes ≡ false) × (valid_text bytes ≡ bytes)
+whole_file bytes utf8 =
+    let n : utf8_valid_len bytes ≡ length bytes = utf8_valid_len-IsUtf8 bytes utf8 in
+    (ap (λ k. ltb k (length bytes)) n ∙ le-ltb (length bytes) (length bytes) (omega arith), ap (λ k. take k bytes) n ∙ take-length bytes)
+
+pub cut_file : (bytes : List ℕ) (n : ℕ) → n ≡ utf8_valid_len bytes → n < length bytes → (is_broken bytes ≡ true) × (valid_text bytes ≡ take n bytes)
+cut_file bytes n same lt =
+    (ap (λ k. ltb k (length bytes)) (sym same) ∙ lt-ltb n (length bytes) lt, ap (λ k. take k bytes) (sym same))
+
+pub long_file : (bytes : List ℕ) → limit < length bytes → IsFirst (breach 9 limit) (breaches bytes)
+unfolding items
+long_file bytes lt =
+    let e : ltb limit (length bytes) ≡ true = lt-ltb limit (length bytes) lt in
+    first_of (breach 9 limit) (breaches bytes) [] (rw e refl) (rw e (tt, tt))
+
+pub short_file : (bytes : List ℕ) → length bytes ≤ limit → items bytes ≡ items_of_text (is_broken bytes) (valid_text bytes)
+unfolding items
+short_file bytes le = let e : ltb limit (length bytes) ≡ false = le-ltb limit (length bytes) le in rw e refl
+
+-- a text behind its byte order mark
+pub text_items : (broken : Bool) (text rest : List ℕ) (mark : ℕ) → mark ≡ mark_len text → rest ≡ drop mark text → mark + length rest ≡ length text
+    → items_from broken (mark + length rest) start_place (pieces_from broken false 0 mark rest) ≡ items_of_text broken text
+unfolding items_of_text
+text_items broken text rest mark same left fits =
+    ap (λ n. items_from broken n start_place (pieces_from broken false 0 mark rest)) fits
+    ∙ (ap (λ r. items_from broken (length text) start_place (pieces_from broken false 0 mark r)) left
+    ∙ ap (λ m. items_from broken (length text) start_place (pieces_from broken false 0 m (drop m text))) same)
+
+pub found_first : (broken : Bool) (text : List ℕ) (found : Option Breach) (old new : List Token) → IsUtf8 text → Puts found old new (items_of_text broken text)
+    → IfSome found (λ b. IsFirst b (breaches_among (items_of_text broken text)))
+found_first broken text None old new utf8 puts = tt
+found_first broken text (Some b) old new utf8 puts = text_first broken text b utf8 puts
+
+pub puts_nothing_before : (items : List Item) (old new : List Token) → old ≡ [] → Puts None old new items → (tokens_among items ≡ new) × (breaches_among items ≡ [])
+puts_nothing_before items old new none puts = read_tokens items new (go (read items) (ap (λ o. with_front o (read items)) (sym none) ∙ puts))
+  where
+    go : (r : Result (List Token) Breach) → with_front [] r ≡ Ok new → r ≡ Ok new
+    go (Ok ts) h = h
+    go (Err b) h = absurd (cc)

@@ -1,5 +1,5 @@
 -- Items read in parts.
-use Rattle.std.proofs.Common.{◌≡◌, ℕ, ◌+◌, ◌-◌, ◌<◌, ◌≤◌, arith, cond, ltb, replicate, Bool, true, false, List, [], ◌∷◌, ◌++◌, refl, sym, ap, ◌∙◌, append_assoc, append-nil, Option, Some, None, Result, Ok, Err}
+use Rattle.std.proofs.Common.{◌≡◌, ℕ, ◌+◌, ◌-◌, ◌≤◌, arith, cond, ltb, replicate, Bool, true, false, List, [], ◌∷◌, ◌++◌, refl, sym, ap, ◌∙◌, append_assoc, Option, Some, None, Result, Ok, Err}
 use Rattle.pyx_lex.specs.declared.lines.Breach.{Breach}
 use Rattle.pyx_lex.specs.declared.lines.Line.{Line}
 use Rattle.pyx_lex.specs.declared.lines.Line.TheVariants.{Fresh, Indented, Begun}
@@ -15,7 +15,7 @@ use Rattle.pyx_lex.specs.Levels.{open_above}
 use Rattle.pyx_lex.specs.Pieces.{Placed}
 use Rattle.pyx_lex.specs.Signs.{is_opening, is_closing}
 use Rattle.pyx_lex.proofs.OpenWidths.{read_replicate}
-use Rattle.pyx_lex.specs.Layout.{Item, Comes, Found, token, gives, Place, Given, begins_line, level_items, before_token, also_gives, dedents, last_newline, items_at_end, depth_behind, ended_line, given_by, given_at}
+use Rattle.pyx_lex.specs.Layout.{Item, Comes, Found, token, gives, Place, begins_line, level_items, before_token, dedents, last_newline, items_at_end, depth_behind, ended_line, given_by, given_at}
 
 abbrev then : Result (List Token) Breach → Result (List Token) Breach → Result (List Token) Breach
 then (Ok ts) more = with_front ts more
@@ -108,6 +108,7 @@ deeper here place = go here.piece.shape here.start (here.start + here.piece.len)
     ended Fresh start end = omega arith
     ended (Indented indentation) start end = omega arith
     ended Begun start end = elim (ltb 0 place.depth) as (λ t. (cond t (gives [] place) (gives (token Newline start end ∷ []) (record { widths = place.widths; line = Fresh; depth = 0 }))).next.depth ≤ place.depth + 1) [ true ↦ omega arith | false ↦ omega arith ]
+
     go : (shape : Shape) (start end : ℕ) → (given_by shape place start end).next.depth ≤ place.depth + 1
     go (Blanks indentation) start end = omega arith
     go (Comment refused) start end = omega arith

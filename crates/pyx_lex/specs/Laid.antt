@@ -1,6 +1,6 @@
 -- How the code's lines follow the definition: it keeps the open widths in place of the widths of the lines.
 use Prim.Native.Nat.{ℕ}
-use Rattle.std.specs.Prelude.{◌≡◌, ◌<◌, ◌+◌, ◌^◌, List, [], ◌∷◌, ◌++◌, Bool, true, false, not, Option, Some, None, Result, Ok, Err}
+use Rattle.std.specs.Prelude.{◌≡◌, ◌<◌, ◌+◌, ◌^◌, List, [], ◌∷◌, ◌++◌, not, Option, Some, None, Result, Ok, Err}
 use Rattle.std.specs.Option.{ForSome}
 use Rattle.pyx_lex.specs.declared.lines.Breach.{Breach}
 use Rattle.pyx_lex.specs.declared.lines.Lines.{Lines}

@@ -1,6 +1,6 @@
 -- String literals and their escapes (Python language reference, section 2.4.1).
 use Prim.Native.Nat.{ℕ, zero, suc}
-use Rattle.std.specs.Prelude.{List, [], ◌∷◌, ◌++◌, Bool, true, false, not, ◌&&◌, ◌||◌, ◌==◌, ◌+◌, ◌-◌, ◌*◌, nat_lt, if◌then◌else◌, slice_index, length, take, drop, fold, chars, encode_utf8_all, Option, Some, None, option_to_list}
+use Rattle.std.specs.Prelude.{List, [], ◌∷◌, ◌++◌, Bool, true, false, not, ◌&&◌, ◌||◌, ◌==◌, ◌+◌, ◌-◌, ◌*◌, if◌then◌else◌, slice_index, length, take, drop, fold, chars, encode_utf8_all, Option, Some, None, option_to_list}
 use Rattle.std.specs.List.{list_all}
 use Rattle.std.specs.Option.{option_map}
 use Rattle.std.specs.Char.{is_digit, digit_value}

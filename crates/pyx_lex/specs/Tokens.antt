@@ -1,6 +1,6 @@
 -- The tokens of a file, and its breaches.
 use Prim.Native.Nat.{ℕ}
-use Rattle.std.specs.Prelude.{List, [], ◌∷◌, Bool, false, nat_lt, if◌then◌else◌, length, take, drop, chars, ◌≡◌}
+use Rattle.std.specs.Prelude.{◌≡◌, List, [], ◌∷◌, Bool, false, ◌==◌, nat_lt, if◌then◌else◌, length, take, drop, chars}
 use Rattle.pyx_lex.specs.Names.{first_passes}
 use Rattle.std.specs.Str.Lossy.{utf8_valid_len}
 use Rattle.pyx_lex.specs.declared.token.Token.{Token}

@@ -3,7 +3,6 @@
 
 mod blanks;
 mod escape;
-
 mod lines;
 mod name;
 mod number;

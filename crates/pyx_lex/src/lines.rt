@@ -230,11 +230,7 @@ impl Lines {
         Ok(broken)
     }
 
-    fn before_token(
-        &mut self,
-        out: &mut Vec<Token>,
-        at: u32,
-    ) -> Result<Option<Breach>, AllocError>
+    fn before_token(&mut self, out: &mut Vec<Token>, at: u32) -> Result<Option<Breach>, AllocError>
         ensures { (place : Place) → IsAt self.old place → IfOk result (λ broken. Takes broken out.old.items out.new.items self.new (before_token place.line place at)) }
     {
         match self.line {

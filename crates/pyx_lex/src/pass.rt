@@ -1,9 +1,9 @@
 //! One pass over a text, piece by piece.
-ghost use Rattle.std.specs.Prelude.{◌≡◌, ◌==◌, ◌≤◌, ◌<◌, ◌+◌, ◌^◌, [], length, IfOk, OnOk, false, chars, nat_lt, Err};
+ghost use Rattle.std.specs.Prelude.{◌≡◌, ◌==◌, ◌≤◌, ◌<◌, ◌+◌, ◌^◌, [], length, IfOk, IfSome, OnOk, false, chars, nat_lt, Err};
 ghost use Rattle.cy_base.specs.declared.place.Refusal.{Refusal as RefusalValue};
-ghost use Rattle.pyx_lex.specs.Breaches.{refusal};
+ghost use Rattle.pyx_lex.specs.Breaches.{IsFirst, refusal};
 ghost use Rattle.pyx_lex.specs.Names.{first_passes};
-ghost use Rattle.pyx_lex.specs.Tokens.{mark_len, items_of_text, is_broken, valid_text, limit, tokens, breaches, IsRefusal};
+ghost use Rattle.pyx_lex.specs.Tokens.{mark_len, items_of_text, is_broken, valid_text, limit, tokens, breaches, breaches_among, IsRefusal};
 ghost use Rattle.pyx_lex.specs.Laid.{Puts};
 ghost use Rattle.pyx_lex.specs.Layout.{items_from, start_place};
 ghost use Rattle.pyx_lex.specs.Pieces.{pieces_from};
@@ -54,17 +54,16 @@ fn put_tokens(
     Ok(None)
 }
 
-/// Whether a byte order mark stands at the front.
-fn has_mark(text: &str) -> bool
-    ensures { result ≡ first_passes (λ c. c == 0xFEFF) (chars text.now) }
+/// The bytes of a byte order mark at the front.
+fn mark_len(text: &str) -> usize
+    ensures { result ≡ mark_len text.now }
 {
     match text.chars().next() {
-        Some(first) => first == '\u{feff}',
-        None => false,
+        Some('\u{feff}') => 3,
+        _ => 0,
     }
 }
 
-#[tactic(auto, unfolding(crate::specs::Tokens::items_of_text))]
 fn put_text(
     alloc: Global,
     out: &mut Vec<Token>,
@@ -72,10 +71,12 @@ fn put_text(
     text: &str,
 ) -> Result<Option<Breach>, OutOfMemory>
     requires { length text.now < 2 ^ 32 }
-    ensures { IfOk result (λ found. Puts found out.old.items out.new.items (items_of_text broken text.now)) }
+    ensures puts { IfOk result (λ found. Puts found out.old.items out.new.items (items_of_text broken text.now)) }
+    ensures first { IfOk result (λ found. IfSome found (λ broken_first. IsFirst broken_first (breaches_among (items_of_text broken text.now)))) }
 {
-    let mark = if has_mark(text) { 3 } else { 0 };
-    put_tokens(alloc, out, broken, &text[mark..], mark as u32)
+    let mark = mark_len(text);
+    let found = put_tokens(alloc, out, broken, &text[mark..], mark as u32)?;
+    Ok(found)
 }
 
 fn put_file(
@@ -84,14 +85,20 @@ fn put_file(
     bytes: &[u8],
 ) -> Result<Option<Breach>, OutOfMemory>
     requires { length bytes.now < 2 ^ 32 }
-    ensures { IfOk result (λ found. Puts found out.old.items out.new.items (items_of_text (is_broken bytes.now) (valid_text bytes.now))) }
+    ensures puts { IfOk result (λ found. Puts found out.old.items out.new.items (items_of_text (is_broken bytes.now) (valid_text bytes.now))) }
+    ensures first { IfOk result (λ found. IfSome found (λ broken_first. IsFirst broken_first (breaches_among (items_of_text (is_broken bytes.now) (valid_text bytes.now))))) }
 {
     match str::from_utf8(bytes) {
-        Ok(text) => put_text(alloc, out, false, text),
+        Ok(text) => {
+            let found = put_text(alloc, out, false, text)?;
+            Ok(found)
+        }
         Err(error) => {
             let valid = &bytes[..error.valid_up_to()];
             // What was validated isn't validated again.
-            put_text(alloc, out, true, unsafe { str::from_utf8_unchecked(valid) })
+            let text = unsafe { str::from_utf8_unchecked(valid) };
+            let found = put_text(alloc, out, true, text)?;
+            Ok(found)
         }
     }
 }
@@ -118,6 +125,7 @@ pub fn lex(alloc: Global, file: FileId, bytes: &[u8]) -> Result<Tokens, Stop>
     requires { length bytes.now < 2 ^ 32 }
     ensures tokens { IfOk result (λ found. found.list ≡ tokens bytes.now) }
     ensures accepted { OnOk result (breaches bytes.now ≡ []) }
+    ensures few { IfOk result (λ found. length found.list < 2 ^ 24) }
     ensures refused { (refused : RefusalValue) → result ≡ Err (Stop.Refused refused) → IsRefusal file bytes.now refused }
 {
     if bytes.len() > LIMIT as usize {

@@ -1,7 +1,9 @@
 ghost use Rattle.std.specs.Prelude.{◌≡◌, ◌<◌, ◌^◌, length, IfOk, IsTrue};
 ghost use Rattle.pyx_lex.specs.Pieces.{piece_at, is_name};
 
-use crate::blanks::{backslash_piece, blanks_piece, byte_at, comment_piece, is_blank, line_end_len};
+use crate::blanks::{
+    backslash_piece, blanks_piece, byte_at, comment_piece, is_blank, line_end_len,
+};
 use crate::name::{begins_name, name_piece};
 use crate::number::number_piece;
 use crate::sign::sign_piece;

@@ -1,4 +1,4 @@
-use Rattle.std.proofs.Common.{ℕ, ◌<◌, ◌≤◌, ◌^◌, arith, length, lit<}
+use Rattle.std.proofs.Common.{ℕ, ◌<◌, ◌^◌, arith, lit<}
 use Rattle.std.proofs.Math.Nat.{pow-le-pow_right}
 use Rattle.pyx_lex.proofs.escape.hex_value.Goals as goal
 

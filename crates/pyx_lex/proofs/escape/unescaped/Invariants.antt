@@ -6,9 +6,9 @@ use Rattle.pyx_lex.proofs.escape.unescaped.Given as goal
 
 abbrev pub invariant-loop-at : goal.invariant-loop-at
 invariant-loop-at l = record {
-    within : l.at ≤ length l.cs;
-    same : option_map (λ cs. string_bytes l.out ++ encode_utf8_all cs) (unescaped 0 (drop l.at l.cs)) ≡ option_map encode_utf8_all (unescaped 0 l.cs);
-  }
+  within : l.at ≤ length l.cs;
+  same : option_map (λ cs. string_bytes l.out ++ encode_utf8_all cs) (unescaped 0 (drop l.at l.cs)) ≡ option_map encode_utf8_all (unescaped 0 l.cs);
+}
 
 abbrev pub decreases-loop-at : goal.decreases-loop-at
 decreases-loop-at l = length l.cs - l.at

@@ -1,4 +1,4 @@
-use Rattle.std.proofs.Common.{◌≡◌, ◌∙◌, sym, ap, rules, arith, Ok, ◌++◌, replicate}
+use Rattle.std.proofs.Common.{◌∙◌, sym, ap, rules, Ok, ◌++◌, replicate}
 use Rattle.pyx_lex.specs.declared.token.TokenKind.TheVariants.{Dedent}
 use Rattle.pyx_lex.proofs.OpenWidths.{puts_wider, puts_off, puts_dedents}
 use Rattle.pyx_lex.proofs.lines.put_level.Goals as goal

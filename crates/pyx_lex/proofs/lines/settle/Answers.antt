@@ -1,5 +1,4 @@
-use Rattle.std.proofs.Common.{ltb, ap, ◌∙◌, ◌++◌, ◌∷◌, [], rules, List, ℕ, ◌≡◌}
-use Rattle.std.specs.List.{filter}
+use Rattle.std.proofs.Common.{ltb, ap, ◌∙◌, ◌++◌, ◌∷◌, [], rules}
 use Rattle.std.proofs.lemmas.Fn.{filter_same}
 use Rattle.pyx_lex.proofs.lines.settle.Goals as goal
 

@@ -1,4 +1,4 @@
-use Rattle.std.proofs.Common.{◌≡◌, ◌+◌, sym, subst, rules}
+use Rattle.std.proofs.Common.{◌≡◌, ◌+◌, subst, rules}
 use Rattle.std.specs.Str.{IsCharBoundary}
 use Rattle.pyx_lex.specs.Numbers.{number_len}
 use Rattle.pyx_lex.proofs.Boundaries.{number_cut, number_some}

@@ -1,10 +1,9 @@
-use Rattle.std.proofs.Common.{◌≡◌, ◌+◌, ◌<◌, ◌≤◌, length, rules, arith, sym, ap, ◌∙◌, refl, subst}
-use Rattle.std.specs.Str.{IsUtf8}
+use Rattle.std.proofs.Common.{◌≡◌, ◌+◌, ◌<◌, length, arith, sym, refl, subst}
 use Rattle.std.proofs.lemmas.Bool.Decides.{nat_tests}
 use Rattle.pyx_lex.specs.Laid.{TabFits}
 use Rattle.pyx_lex.specs.Layout.{start_place}
 use Rattle.pyx_lex.proofs.Boundaries.{IsCut, piece_cut}
-use Rattle.pyx_lex.proofs.Forward.{Goes, goes_next, goes_wrong, ends_broken, ends, tab_fits, depth_within}
+use Rattle.pyx_lex.proofs.Forward.{goes_next, goes_wrong, ends_broken, ends, tab_fits, depth_within}
 use Rattle.pyx_lex.proofs.pass.put_tokens.Goals as goal
 use Rattle.pyx_lex.proofs.pass.put_tokens.Goals.{In_ok-piece, In_ok-found}
 
@@ -18,11 +17,11 @@ piece_is_cut c =
 
 pub loop-rest-init : goal.loop-rest-init
 loop-rest-init c = (
-      c.utf8.text,
-      refl,
-      omega (arith, c.in_ok-lines.ensures.depth),
-      record { place = start_place; here = c.in_ok-lines.ensures; same = refl },
-    )
+  c.utf8.text,
+  refl,
+  omega (arith, c.in_ok-lines.ensures.depth),
+  record { place = start_place; here = c.in_ok-lines.ensures; same = refl },
+)
 
 pub take-requires-clause-within : goal.take-requires-clause-within
 take-requires-clause-within c =
@@ -57,9 +56,9 @@ loop-rest-preserved c =
       c.range_from-rest.utf8,
       omega (arith, cut.0.0, c.range_from-rest.ensures.len, c.loop-rest.invariant.1),
       depth_within c.loop-rest.lines c.take.new.self _ _ c.in_ok-piece.piece c.loop-rest.at goes.place goes.here c.loop-rest.invariant.2 cut.1
-      (rw c.in-None.is at (c.in_ok-found.ensures goes.place goes.here)),
+          (rw c.in-None.is at (c.in_ok-found.ensures goes.place goes.here)),
       goes_next _ _ _ _ c.loop-rest.at c.loop-rest.rest.now _ c.loop-rest.lines _ _ _ _ c.in_ok-piece.piece c.is_name-after_name.ensures c.range_from-rest.ensures.value
-      (some_left step) c.in_ok-piece.ensures cut.1 (λ place here. rw c.in-None.is at (c.in_ok-found.ensures place here)) goes,
+          (some_left step) c.in_ok-piece.ensures cut.1 (λ place here. rw c.in-None.is at (c.in_ok-found.ensures place here)) goes,
     )
 
 pub returns-then-broken : goal.returns-then-broken

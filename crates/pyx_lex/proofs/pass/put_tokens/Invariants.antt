@@ -13,7 +13,7 @@ invariant-loop-rest l =
     × (l.at + length l.rest ≡ l.start + length l.text)
     × (l.lines.depth ≤ l.at)
     × Goes l.broken l.after_name (l.start + length l.text) l.at l.rest l.lines l.out.items
-      (with_front l.initial.out.items (read (items_from l.broken (l.start + length l.text) start_place (pieces_from l.broken false 0 l.start l.text))))
+    (with_front l.initial.out.items (read (items_from l.broken (l.start + length l.text) start_place (pieces_from l.broken false 0 l.start l.text))))
 
 abbrev pub decreases-loop-rest : goal.decreases-loop-rest
 decreases-loop-rest l = length l.rest

@@ -1,4 +1,4 @@
-use Rattle.std.proofs.Common.{◌≡◌, ◌+◌, sym, subst, rules}
+use Rattle.std.proofs.Common.{◌≡◌, ◌+◌, subst, rules}
 use Rattle.std.specs.Str.{IsCharBoundary}
 use Rattle.pyx_lex.specs.Strings.{opening_at}
 use Rattle.pyx_lex.proofs.Boundaries.{opening_cut, inside_cut, inside_bytes}

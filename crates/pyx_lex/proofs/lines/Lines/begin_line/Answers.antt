@@ -1,4 +1,4 @@
-use Rattle.std.proofs.Common.{◌≡◌, ◌∙◌, ◌++◌, ◌∷◌, [], sym, ap, rules, ltb, refl}
+use Rattle.std.proofs.Common.{◌∙◌, ◌++◌, ◌∷◌, [], ap, ltb, refl}
 use Rattle.std.specs.List.{filter}
 use Rattle.pyx_lex.specs.Levels.{open_widths}
 use Rattle.pyx_lex.proofs.Reading.{begin_takes}

@@ -1,4 +1,4 @@
-use Rattle.std.proofs.Common.{◌≡◌, ◌∙◌, sym, ap, [], ◌∷◌, Err}
+use Rattle.std.proofs.Common.{◌∙◌, sym, ap, [], Err}
 use Rattle.pyx_lex.specs.Breaches.{breach}
 use Rattle.pyx_lex.specs.Layout.{before_token}
 use Rattle.pyx_lex.proofs.Reading.{read_err, read_found}

@@ -1,4 +1,4 @@
-use Rattle.std.proofs.Common.{◌≡◌, ◌∙◌, sym, ap, [], ◌∷◌, Ok}
+use Rattle.std.proofs.Common.{◌∙◌, sym, ap, Ok}
 use Rattle.pyx_lex.specs.Layout.{before_token, depth_behind}
 use Rattle.pyx_lex.proofs.Reading.{read_err, read_more, before_depth}
 use Rattle.pyx_lex.proofs.lines.Lines.spelled.Goals as goal
