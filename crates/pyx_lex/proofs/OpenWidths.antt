@@ -1,8 +1,10 @@
 -- Open widths, looked back for and listed.
-use Rattle.std.proofs.Common.{◌≡◌, ℕ, zero, suc, ◌⊎◌, inl, inr, ◌-◌, ◌<◌, ◌≤◌, Bool, true, false, cond, ◌&&◌, ◌||◌, eqb, ltb, eq-eqb, lt-ltb, le-ltb, Ok, Err, List, [], ◌∷◌, ◌++◌, length, get_or, refl, sym, ap, ◌∙◌, arith, length-append, replicate}
+use Rattle.std.proofs.Common.{◌≡◌, ℕ, zero, suc, ◌⊎◌, inl, inr, ◌+◌, ◌-◌, ◌<◌, ◌≤◌, Bool, true, false, cond, ◌&&◌, ◌||◌, eqb, ltb, ltb-true, eq-eqb, lt-ltb, le-ltb, Ok, Err, List, [], ◌∷◌, ◌++◌, length, get_or, refl, sym, ap, ◌∙◌, arith, length-append, replicate}
 use Rattle.std.specs.List.{filter, list_any}
-use Rattle.std.proofs.lemmas.Bool.{cases_eq, ne_eqb}
-use Rattle.std.proofs.lemmas.List.{get_or_push}
+use Rattle.std.proofs.lemmas.Bool.{cases_eq, cases_lt, ne_eqb}
+use Rattle.std.proofs.lemmas.List.{get_or_push, get_or_append_left}
+use Rattle.std.proofs.lemmas.List.Kept.{IsStrictlyIncreasing-filter}
+use Rattle.std.specs.List.Sorted.{IsStrictlyIncreasing}
 use Rattle.std.proofs.lemmas.Bool.Decides.{nat_tests}
 use Rattle.pyx_lex.specs.declared.token.Token.{Token}
 use Rattle.pyx_lex.specs.declared.token.TokenKind.TheVariants.{Indent, Dedent}
@@ -75,6 +77,31 @@ last_listed (u ∷ before) =
     let front : List ℕ = filter (λ v. ltb v u) (open_widths before) in
     let place : length (front ++ u ∷ []) - 1 ≡ length front = omega (arith, length-append front (u ∷ [])) in
     ap (λ i. get_or (front ++ u ∷ []) i 0) place ∙ get_or_push front u 0 (length front) refl
+
+-- the open widths rise
+behind_last : (w : ℕ) (xs : List ℕ) → IsStrictlyIncreasing xs → ((i : ℕ) → i < length xs → get_or xs i 0 < w) → IsStrictlyIncreasing (xs ++ w ∷ [])
+behind_last w xs rise below = λ k lt. go k (cases_lt (k + 1) (length xs)) (omega (arith, length-append xs (w ∷ [])))
+  where
+    go : (k : ℕ) → (k + 1 < length xs) ⊎ (length xs ≤ k + 1) → k + 1 ≤ length xs → get_or (xs ++ w ∷ []) k 0 < get_or (xs ++ w ∷ []) (k + 1) 0
+    go k (inl lt) le = omega (arith, rise k lt, get_or_append_left xs (w ∷ []) 0 k (omega arith), get_or_append_left xs (w ∷ []) 0 (k + 1) lt)
+    go k (inr ge) le = omega (arith, below k (omega arith), get_or_append_left xs (w ∷ []) 0 k (omega arith), get_or_push xs w 0 (k + 1) (omega arith))
+
+filter_below : (w : ℕ) (xs : List ℕ) (i : ℕ) → i < length (filter (λ v. ltb v w) xs) → get_or (filter (λ v. ltb v w) xs) i 0 < w
+filter_below w [] i lt = absurd (omega arith)
+filter_below w (x ∷ xs) i lt = go (ltb x w) refl i lt (filter_below w xs)
+  where
+    go : (t : Bool) → ltb x w ≡ t → (i : ℕ) → i < length (cond t (x ∷ filter (λ v. ltb v w) xs) (filter (λ v. ltb v w) xs))
+        → ((j : ℕ) → j < length (filter (λ v. ltb v w) xs) → get_or (filter (λ v. ltb v w) xs) j 0 < w)
+        → get_or (cond t (x ∷ filter (λ v. ltb v w) xs) (filter (λ v. ltb v w) xs)) i 0 < w
+    go true e zero lt more = ltb-true x w e
+    go true e (suc j) lt more = more j (omega arith)
+    go false e i lt more = more i lt
+
+pub open_rise : (before : List ℕ) → IsStrictlyIncreasing (open_widths before)
+unfolding open_widths
+open_rise [] = λ k lt. absurd (omega arith)
+open_rise (w ∷ before) =
+    behind_last w (filter (λ v. ltb v w) (open_widths before)) (IsStrictlyIncreasing-filter (λ v. ltb v w) (open_widths before) (open_rise before)) (filter_below w (open_widths before))
 
 -- ---- items of levels
 

@@ -13,7 +13,7 @@ use Rattle.pyx_lex.specs.declared.token.Token.{Token}
 use Rattle.pyx_lex.specs.declared.token.TokenKind.{TokenKind}
 use Rattle.pyx_lex.specs.declared.token.TokenKind.TheVariants.{Sign, Newline, Indent, Dedent, End}
 use Rattle.pyx_lex.specs.declared.lines.Breach.{Breach}
-use Rattle.pyx_lex.specs.Breaches.{breach}
+use Rattle.pyx_lex.specs.Breaches.{breach, not_utf8, tab_in_indentation, no_such_level, stray_character, wrong_name, wrong_string, wrong_number, refused_directive}
 use Rattle.pyx_lex.specs.Levels.{is_open, is_wider, open_above}
 use Rattle.pyx_lex.specs.Pieces.{Placed}
 use Rattle.pyx_lex.specs.Signs.{is_opening, is_closing}
@@ -53,12 +53,7 @@ gives items next = record { items = items; next = next }
 abbrev pub none : Indentation
 none = record { spaces = 0; tab = None }
 
--- The indentation of a line: the blanks that it begins with. Joined lines have none of their own.
-abbrev pub indentation_of : Line → Indentation
-indentation_of Fresh = none
-indentation_of (Indented indentation) = indentation
-indentation_of Begun = none
-
+-- the place of a tab in its file
 abbrev pub moved : ℕ → Option ℕ → Option ℕ
 moved start None = None
 moved start (Some k) = Some (start + k)
@@ -66,7 +61,7 @@ moved start (Some k) = Some (start + k)
 abbrev pub shifted : ℕ → Indentation → Indentation
 shifted start indentation = record { spaces = indentation.spaces; tab = moved start indentation.tab }
 
--- the line behind blanks
+-- The line behind blanks. Those that it begins with are its indentation; joined lines have none of their own.
 abbrev pub behind_blanks : ℕ → Indentation → Line → Line
 behind_blanks start indentation Fresh = Indented (shifted start indentation)
 behind_blanks start indentation (Indented before) = Indented before
@@ -84,20 +79,20 @@ behind_comment Fresh = Indented none
 behind_comment (Indented before) = Indented none
 behind_comment Begun = Begun
 
--- rule 2: a tab in the indentation of a line with a token
+-- a tab in the indentation of a line with a token
 abbrev pub tab_items : Option ℕ → List Item
 tab_items None = []
-tab_items (Some offset) = found 2 offset ∷ []
+tab_items (Some offset) = found tab_in_indentation offset ∷ []
 
 abbrev pub dedents : ℕ → ℕ → List Item
 dedents count at = replicate count (token Dedent at at)
 
--- A line that is wider than the one before gives INDENT. Otherwise it gives one DEDENT for each open width above its
--- own. Rule 3: a width that isn't open.
+-- A line that is wider than the one before gives INDENT. Otherwise its width must be open, and it gives one DEDENT for
+-- each open width above its own.
 abbrev pub level_items : ℕ → List ℕ → ℕ → List Item
 level_items width widths at =
     if is_wider width widths then token Indent at at ∷ [] else
-    if is_open width widths then dedents (open_above width widths) at else found 3 at ∷ []
+    if is_open width widths then dedents (open_above width widths) at else found no_such_level at ∷ []
 
 -- what the first token of a line gives before itself
 abbrev pub line_items : Indentation → List ℕ → ℕ → List Item
@@ -127,11 +122,11 @@ abbrev pub also_gives : Given → Item → (ℕ → ℕ) → Given
 also_gives before item depth =
     gives (before.items ++ item ∷ []) (record before.next { depth = depth before.next.depth })
 
--- the rules 5, 6 and 7
+-- the rule that a faulty token breaks
 abbrev pub rule_of : Fault → ℕ
-rule_of fault.Name = 5
-rule_of fault.Str = 6
-rule_of fault.Int = 7
+rule_of fault.Name = wrong_name
+rule_of fault.Str = wrong_string
+rule_of fault.Int = wrong_number
 
 -- Inside brackets lines join. A line with no token gives nothing.
 abbrev pub ended_line : Line → Place → ℕ → ℕ → Given
@@ -144,11 +139,11 @@ abbrev pub is_before_tokens : List ℕ → Bool
 is_before_tokens [] = true
 is_before_tokens (w ∷ widths) = false
 
--- rule 8: a refused directive before the first token
+-- a refused directive before the first token
 abbrev pub comment_items : Bool → List ℕ → ℕ → List Item
-comment_items refused widths at = if refused && is_before_tokens widths then found 8 at ∷ [] else []
+comment_items refused widths at = if refused && is_before_tokens widths then found refused_directive at ∷ [] else []
 
--- Rule 4: a character that starts no token. Of a line that begins with one nothing is said of its indentation.
+-- Of a line that begins with a character that starts no token nothing is said of its indentation.
 abbrev pub given_by : Shape → Place → ℕ → ℕ → Given
 given_by (Blanks indentation) place start end =
     gives [] (record place { line = behind_blanks start indentation place.line })
@@ -160,7 +155,7 @@ given_by (Spelled kind) place start end =
     also_gives (before_token place.line place start) (token kind start end) (depth_behind kind)
 given_by (Faulty fault) place start end =
     also_gives (before_token place.line place start) (found (rule_of fault) start) (λ depth. depth)
-given_by Stray place start end = gives (found 4 start ∷ []) (record place { line = Begun })
+given_by Stray place start end = gives (found stray_character start ∷ []) (record place { line = Begun })
 given_by Cut place start end = gives [] place
 
 unfoldable pub given_at : Placed → Place → Given
@@ -173,10 +168,10 @@ abbrev pub last_newline : Line → ℕ → List Item
 last_newline Begun end = token Newline end end ∷ []
 last_newline _ end = []
 
--- rule 1: the first byte that ends the valid UTF-8
+-- what the end gives: the byte that ends the valid UTF-8, if one does
 unfoldable pub items_at_end : Bool → Place → ℕ → List Item
 items_at_end broken place end =
-    if broken then found 1 end ∷ []
+    if broken then found not_utf8 end ∷ []
     else last_newline place.line end ++ (dedents (open_above 0 place.widths) end ++ token End end end ∷ [])
 
 -- what pieces give in their order, in a text that ends at this byte

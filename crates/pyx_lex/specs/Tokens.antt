@@ -6,7 +6,7 @@ use Rattle.std.specs.Str.Lossy.{utf8_valid_len}
 use Rattle.pyx_lex.specs.declared.token.Token.{Token}
 use Rattle.cy_base.specs.declared.place.Refusal.{Refusal}
 use Rattle.pyx_lex.specs.declared.lines.Breach.{Breach}
-use Rattle.pyx_lex.specs.Breaches.{IsFirst, refusal}
+use Rattle.pyx_lex.specs.Breaches.{IsFirst, refusal, too_long}
 use Rattle.pyx_lex.specs.Layout.{Item, Comes, Found, found, items_from, start_place}
 use Rattle.pyx_lex.specs.Pieces.{pieces_from}
 
@@ -30,10 +30,10 @@ items_of_text broken text =
 abbrev pub limit : ℕ
 limit = 4_194_304
 
--- what a file gives; rule 9: of a longer file nothing else is said
+-- what a file gives; of a longer file nothing else is said
 unfoldable pub items : List ℕ → List Item
 items bytes =
-    if nat_lt limit (length bytes) then found 9 limit ∷ [] else items_of_text (is_broken bytes) (valid_text bytes)
+    if nat_lt limit (length bytes) then found too_long limit ∷ [] else items_of_text (is_broken bytes) (valid_text bytes)
 
 abbrev pub tokens_among : List Item → List Token
 tokens_among [] = []

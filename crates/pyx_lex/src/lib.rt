@@ -12,5 +12,6 @@ mod sign;
 mod string;
 mod token;
 
+pub use lines::lists_open_widths;
 pub use pass::lex;
 pub use token::{Token, TokenKind, Tokens};

@@ -1,6 +1,7 @@
 //! Lines, levels of indentation and brackets (Python language reference, section 2.1).
 ghost use Rattle.std.specs.Prelude.{◌≡◌, ◌≤◌, ◌<◌, ◌+◌, ◌^◌, ◌==◌, ◌++◌, [], ◌∷◌, ℕ, List, length, nat_lt, IfOk, OnOk, None, false, replicate};
 ghost use Rattle.std.specs.List.{filter, list_any};
+ghost use Rattle.std.specs.List.Sorted.{IsStrictlyIncreasing};
 ghost use Rattle.std.specs.Option.{ForSome};
 ghost use Rattle.pyx_lex.specs.Breaches.{breach};
 ghost use Rattle.pyx_lex.specs.Laid.{IsAt, Puts, Takes, TabFits};
@@ -14,6 +15,24 @@ use crate::sign::{is_closing, is_opening};
 use crate::token::{Token, TokenKind};
 use cy_base::Span;
 use std::alloc::{AllocError, Global};
+
+pub(crate) const NOT_UTF8: u8 = 1;
+
+const TAB_IN_INDENTATION: u8 = 2;
+
+const NO_SUCH_LEVEL: u8 = 3;
+
+const STRAY_CHARACTER: u8 = 4;
+
+const WRONG_NAME: u8 = 5;
+
+const WRONG_STRING: u8 = 6;
+
+const WRONG_NUMBER: u8 = 7;
+
+const REFUSED_DIRECTIVE: u8 = 8;
+
+pub(crate) const TOO_LONG: u8 = 9;
 
 /// What is there of a logical line: nothing, no token yet and the indentation that it began with, or a token.
 #[derive(Clone, Copy, Debug, PartialEq, Eq)]
@@ -136,9 +155,9 @@ fn rule_of(fault: Fault) -> u8
     ensures { result ≡ rule_of fault }
 {
     match fault {
-        Fault::Name => 5,
-        Fault::Str => 6,
-        Fault::Int => 7,
+        Fault::Name => WRONG_NAME,
+        Fault::Str => WRONG_STRING,
+        Fault::Int => WRONG_NUMBER,
     }
 }
 
@@ -153,6 +172,7 @@ fn last_level(levels: &[usize]) -> usize
 }
 
 /// Keeps the levels below a width, and puts the width behind them.
+// There are no more levels than spaces in the line before and one, so this is linear in the text.
 fn settle(levels: &mut Vec<usize>, width: usize) -> Result<(), AllocError>
     ensures { OnOk result (levels.new.items ≡ filter (λ level. nat_lt level width) levels.old.items ++ width ∷ []) }
 {
@@ -176,7 +196,7 @@ fn put_level(
     }
     if !has_level(levels, width) {
         return Ok(Some(Breach {
-            rule: 3,
+            rule: NO_SUCH_LEVEL,
             offset: at,
         }));
     }
@@ -220,7 +240,10 @@ impl Lines {
         ensures { (place : Place) → IsAt self.old place → IfOk result (λ broken. Takes broken out.old.items out.new.items self.new (begins_line indentation place at)) }
     {
         match indentation.tab {
-            Some(offset) => return Ok(Some(Breach { rule: 2, offset })),
+            Some(offset) => return Ok(Some(Breach {
+                rule: TAB_IN_INDENTATION,
+                offset,
+            })),
             None => {}
         }
         let broken = put_level(out, &self.levels, indentation.spaces, at)?;
@@ -308,7 +331,7 @@ impl Lines {
         self.line = line_behind_comment(self.line);
         if refused && !self.begun {
             Some(Breach {
-                rule: 8,
+                rule: REFUSED_DIRECTIVE,
                 offset: at,
             })
         } else {
@@ -344,7 +367,7 @@ impl Lines {
             Shape::Spelled(kind) => self.spelled(out, kind, start, end),
             Shape::Faulty(fault) => self.faulty(out, fault, start),
             Shape::Stray => Ok(Some(Breach {
-                rule: 4,
+                rule: STRAY_CHARACTER,
                 offset: start,
             })),
             Shape::Cut => Ok(None),
@@ -361,3 +384,9 @@ impl Lines {
         Ok(())
     }
 }
+
+/// The open widths are those that are open by the definition, each once, from the narrowest on.
+pub fn lists_open_widths()
+    ensures listed { (width : ℕ) (before : List ℕ) → list_any (λ level. level == width) (open_widths before) ≡ is_open width before }
+    ensures rising { (before : List ℕ) → IsStrictlyIncreasing (open_widths before) }
+{}

@@ -8,13 +8,15 @@ ghost use Rattle.pyx_lex.specs.Laid.{Puts};
 ghost use Rattle.pyx_lex.specs.Layout.{items_from, start_place};
 ghost use Rattle.pyx_lex.specs.Pieces.{pieces_from};
 
-use crate::lines::{Breach, Lines};
+use crate::lines::{Breach, Lines, NOT_UTF8, TOO_LONG};
 use crate::piece::piece_at;
 use crate::token::{Token, Tokens};
 use cy_base::{FileId, OutOfMemory, Phase, Refusal, Rule, Stop};
 use sqlite_items::Items;
 use std::alloc::Global;
 use std::str;
+
+const LIMIT: u32 = 4_194_304;
 
 /// Puts the tokens of a text behind others, or answers the first breach. The text begins at a byte of its file.
 fn put_tokens(
@@ -46,7 +48,7 @@ fn put_tokens(
     }
     if broken {
         return Ok(Some(Breach {
-            rule: 1,
+            rule: NOT_UTF8,
             offset: at,
         }));
     }
@@ -103,8 +105,6 @@ fn put_file(
     }
 }
 
-const LIMIT: u32 = 4_194_304;
-
 fn refusal(file: FileId, found: Breach) -> Refusal
     ensures { result ≡ refusal file found }
 {
@@ -130,7 +130,7 @@ pub fn lex(alloc: Global, file: FileId, bytes: &[u8]) -> Result<Tokens, Stop>
 {
     if bytes.len() > LIMIT as usize {
         let found = Breach {
-            rule: 9,
+            rule: TOO_LONG,
             offset: LIMIT,
         };
         return Err(Stop::Refused(refusal(file, found)));
