@@ -1,5 +1,6 @@
 mod Boundaries
 mod Digits
+mod Ends
 mod Escapes
 mod Few
 mod Forward

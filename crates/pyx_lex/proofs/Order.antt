@@ -78,7 +78,7 @@ runs_cons lo b hi bs le lt r = record {
   ordered = (after_from b hi bs lt r.from, r.ordered);
 }
 
-breaches_append : (xs ys : List Item) → breaches_among (xs ++ ys) ≡ breaches_among xs ++ breaches_among ys
+pub breaches_append : (xs ys : List Item) → breaches_among (xs ++ ys) ≡ breaches_among xs ++ breaches_among ys
 breaches_append [] ys = refl
 breaches_append (Comes t ∷ xs) ys = breaches_append xs ys
 breaches_append (Found b ∷ xs) ys = ap (λ bs. b ∷ bs) (breaches_append xs ys)

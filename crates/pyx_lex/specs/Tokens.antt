@@ -1,9 +1,12 @@
 -- The tokens of a file, and its breaches.
 use Prim.Native.Nat.{ℕ}
-use Rattle.std.specs.Prelude.{◌≡◌, List, [], ◌∷◌, Bool, false, ◌==◌, nat_lt, if◌then◌else◌, length, take, drop, chars}
+use Rattle.std.specs.Prelude.{◌≡◌, List, [], ◌∷◌, ◌++◌, Bool, true, false, ◌==◌, nat_lt, if◌then◌else◌, length, take, drop, chars}
 use Rattle.pyx_lex.specs.Names.{first_passes}
 use Rattle.std.specs.Str.Lossy.{utf8_valid_len}
+use Rattle.std.specs.List.{list_any}
 use Rattle.pyx_lex.specs.declared.token.Token.{Token}
+use Rattle.pyx_lex.specs.declared.token.TokenKind.{TokenKind}
+use Rattle.pyx_lex.specs.declared.token.TokenKind.TheVariants.{End}
 use Rattle.cy_base.specs.declared.place.Refusal.{Refusal}
 use Rattle.pyx_lex.specs.declared.lines.Breach.{Breach}
 use Rattle.pyx_lex.specs.Breaches.{IsFirst, refusal, too_long}
@@ -48,6 +51,17 @@ breaches_among (Found breach ∷ more) = breach ∷ breaches_among more
 -- the tokens of a file
 abbrev pub tokens : List ℕ → List Token
 tokens bytes = tokens_among (items bytes)
+
+abbrev pub is_end : TokenKind → Bool
+is_end End = true
+is_end _ = false
+
+-- tokens that end with END, which stands nowhere else
+pub record EndsOnce (list : List Token) : Type 0 where
+  pub front : List Token
+  pub at : ℕ
+  pub parts : list ≡ front ++ record { kind = End; span = record { start = at; end = at } } ∷ []
+  pub only : list_any (λ t. is_end t.kind) front ≡ false
 
 -- the breaches of rules 1 to 9 in a file
 abbrev pub breaches : List ℕ → List Breach

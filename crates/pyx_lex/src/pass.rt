@@ -3,7 +3,7 @@ ghost use Rattle.std.specs.Prelude.{◌≡◌, ◌==◌, ◌≤◌, ◌<◌, ◌
 ghost use Rattle.cy_base.specs.declared.place.Refusal.{Refusal as RefusalValue};
 ghost use Rattle.pyx_lex.specs.Breaches.{IsFirst, refusal};
 ghost use Rattle.pyx_lex.specs.Names.{first_passes};
-ghost use Rattle.pyx_lex.specs.Tokens.{mark_len, items_of_text, is_broken, valid_text, limit, tokens, breaches, breaches_among, IsRefusal};
+ghost use Rattle.pyx_lex.specs.Tokens.{mark_len, items_of_text, is_broken, valid_text, limit, tokens, breaches, breaches_among, EndsOnce, IsRefusal};
 ghost use Rattle.pyx_lex.specs.Laid.{Puts};
 ghost use Rattle.pyx_lex.specs.Layout.{items_from, start_place};
 ghost use Rattle.pyx_lex.specs.Pieces.{pieces_from};
@@ -125,6 +125,7 @@ pub fn lex(alloc: Global, file: FileId, bytes: &[u8]) -> Result<Tokens, Stop>
     requires { length bytes.now < 2 ^ 32 }
     ensures tokens { IfOk result (λ found. found.list ≡ tokens bytes.now) }
     ensures accepted { OnOk result (breaches bytes.now ≡ []) }
+    ensures ends { IfOk result (λ found. EndsOnce found.list) }
     ensures few { IfOk result (λ found. length found.list < 2 ^ 24) }
     ensures refused { (refused : RefusalValue) → result ≡ Err (Stop.Refused refused) → IsRefusal file bytes.now refused }
 {
