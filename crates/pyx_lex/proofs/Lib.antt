@@ -1,0 +1,11 @@
+mod Boundaries
+mod Digits
+mod Ends
+mod Escapes
+mod Few
+mod Forward
+mod Fronts
+mod Normal
+mod OpenWidths
+mod Order
+mod Reading
