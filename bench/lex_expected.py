@@ -113,12 +113,16 @@ class Lexer:
                     return len(self.text), None, True
             j += 1
 
+    def tab(self, begun, indentation):
+        """A tab in the indentation of a line whose first token is at hand."""
+        start, blanks = indentation
+        if not begun and "\t" in blanks:
+            self.stop(2, start + blanks.index("\t"))
+
     def begin(self, i, indentation):
         """The first token of a line, at i, whose line begins with this indentation."""
-        start, blanks = indentation
-        if "\t" in blanks:
-            self.stop(2, start + blanks.index("\t"))
-        width = len(blanks)
+        self.tab(False, indentation)
+        width = len(indentation[1])
         if width > self.widths[-1]:
             self.put("indent", i, i)
         else:
@@ -179,6 +183,7 @@ class Lexer:
             if string:
                 j, value, unended = string
                 if unended and self.bad is not None:
+                    self.tab(begun, indentation)
                     i = n
                     continue
                 kind = None if value is None or after_name == i else "string " + shown(value)
@@ -186,8 +191,10 @@ class Lexer:
             elif c in "0123456789":
                 m = INT.match(text, i)
                 j = m.end()
-                if self.cut(j):
-                    i = j
+                # With one digit more the rest would be a literal.
+                if self.bad is not None and INT.fullmatch(text[i:] + "0"):
+                    self.tab(begun, indentation)
+                    i = n
                     continue
                 digits = m.group().replace("_", "")
                 value = int(digits, 0) if digits.strip("0") else 0
@@ -198,6 +205,7 @@ class Lexer:
                 while j < n and goes_on(text[j]):
                     j += 1
                 if self.cut(j):
+                    self.tab(begun, indentation)
                     i = j
                     continue
                 name = text[i:j]

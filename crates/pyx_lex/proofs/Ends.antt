@@ -12,10 +12,10 @@ use Rattle.pyx_lex.specs.declared.piece.Shape.TheVariants.{Blanks, Comment, Line
 use Rattle.pyx_lex.specs.declared.token.Token.{Token}
 use Rattle.pyx_lex.specs.declared.token.TokenKind.TheVariants.{Name, Word, Int, Newline, Indent, End}
 use Rattle.pyx_lex.specs.Blanks.{is_blank, is_line_end, line_len, is_refused_directive}
-use Rattle.pyx_lex.specs.Layout.{Item, Comes, Found, token, found, gives, Place, Given, none, start_place, tab_items, dedents, level_items, line_items, before_token, rule_of, is_before_tokens, ended_line, given_by, given_at, last_newline, items_at_end, items_from}
+use Rattle.pyx_lex.specs.Layout.{Item, Comes, Found, token, found, gives, Place, Given, none, start_place, tab_items, cut_items, dedents, level_items, line_items, before_token, rule_of, is_before_tokens, ended_line, given_by, given_at, last_newline, items_at_end, items_from}
 use Rattle.pyx_lex.specs.Levels.{is_wider, is_open, open_above}
 use Rattle.pyx_lex.specs.Names.{begins_name, name_at, is_reserved, is_wrong_name}
-use Rattle.pyx_lex.specs.Numbers.{number_len, number_value, is_wrong_number}
+use Rattle.pyx_lex.specs.Numbers.{could_go_on, number_value, is_wrong_number}
 use Rattle.pyx_lex.specs.Pieces.{piece_at, pieces_from, is_name, blanks_piece, backslash_piece, comment_piece, number_piece, number_shape, name_piece, name_shape, string_piece, string_shape, sign_piece}
 use Rattle.pyx_lex.specs.Signs.{sign_len}
 use Rattle.pyx_lex.specs.Strings
@@ -93,7 +93,16 @@ no_shape (Spelled kind) place at end h =
 no_shape (Faulty f) place at end h =
     none_in (before_token place.line place at).items (found (rule_of f) at ∷ []) (no_before place.line place at) refl
 no_shape Stray place at end h = refl
-no_shape Cut place at end h = refl
+no_shape Cut place at end h = go place.line
+  where
+    tab : (o : Option ℕ) → has_end (tokens_among (tab_items o)) ≡ false
+    tab None = refl
+    tab (Some t) = refl
+
+    go : (line : Line) → has_end (tokens_among (cut_items line)) ≡ false
+    go Fresh = refl
+    go (Indented i) = tab i.tab
+    go Begun = refl
 
 -- ---- no piece is END
 
@@ -128,7 +137,7 @@ piece_not_end broken after_name text =
     (piece_pick (eqb (get_or text 0 0) 92) _ _ (piece_pick (is_line_end (drop 1 text)) _ _ tt tt)
     (piece_pick (eqb (get_or text 0 0) 35) _ _ (shape_pick (broken && eqb (length text) (line_len text)) Cut (Comment (is_refused_directive (take (line_len text) text))) tt tt)
     (piece_pick (begins_string text) _ _ (shape_pick (broken && Strings.is_open text) Cut (string_shape after_name (string_value text)) tt (string_not_end after_name (string_value text)))
-    (piece_pick (is_ascii_digit (get_or text 0 0)) _ _ (shape_pick (broken && eqb (length text) (number_len text)) Cut (number_shape text) tt (number_not_end text))
+    (piece_pick (is_ascii_digit (get_or text 0 0)) _ _ (shape_pick (broken && could_go_on text) Cut (number_shape text) tt (number_not_end text))
     (piece_pick (begins_name text) _ _ (shape_pick (broken && eqb (length text) (length (name_at text))) Cut (name_shape (name_at text)) tt (name_not_end (name_at text)))
     (piece_pick (eqb (sign_len text) 0) _ _ tt refl)))))))
 

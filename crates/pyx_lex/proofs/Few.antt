@@ -11,7 +11,7 @@ use Rattle.pyx_lex.specs.declared.piece.Piece.{Piece}
 use Rattle.pyx_lex.specs.declared.piece.Shape.{Shape}
 use Rattle.pyx_lex.specs.declared.piece.Shape.TheVariants.{Blanks, Comment, LineEnd, Join, Spelled, Faulty, Stray, Cut}
 use Rattle.pyx_lex.specs.declared.token.TokenKind.TheVariants.{Newline, Indent, End}
-use Rattle.pyx_lex.specs.Layout.{Item, Comes, Found, token, found, gives, Place, Given, start_place, none, tab_items, level_items, line_items, before_token, rule_of, dedents, is_before_tokens, ended_line, given_by, given_at, last_newline, items_at_end, items_from}
+use Rattle.pyx_lex.specs.Layout.{Item, Comes, Found, token, found, gives, Place, Given, start_place, none, tab_items, cut_items, level_items, line_items, before_token, rule_of, dedents, is_before_tokens, ended_line, given_by, given_at, last_newline, items_at_end, items_from}
 use Rattle.pyx_lex.specs.Levels.{is_wider, is_open, open_above, open_widths}
 use Rattle.pyx_lex.specs.Pieces.{piece_at, pieces_from, is_name}
 use Rattle.pyx_lex.specs.Tokens.{tokens_among, items, items_of_text, tokens, mark_len, valid_text, is_broken, limit}
@@ -96,7 +96,16 @@ shape_count (Spelled kind) place at end =
 shape_count (Faulty f) place at end =
     omega (arith, count_append (before_token place.line place at).items (found (rule_of f) at ∷ []), before_count place.line place at)
 shape_count Stray place at end = omega arith
-shape_count Cut place at end = omega arith
+shape_count Cut place at end = go place.line
+  where
+    tab : (o : Option ℕ) → length (tokens_among (tab_items o)) ≡ 0
+    tab None = refl
+    tab (Some t) = refl
+
+    go : (line : Line) → length (tokens_among (cut_items line)) + levels (record place { line = Begun }) ≤ levels place + 3
+    go Fresh = omega arith
+    go (Indented i) = omega (arith, tab i.tab)
+    go Begun = omega arith
 
 end_count : (broken : Bool) (place : Place) (end : ℕ) → length (tokens_among (items_at_end broken place end)) ≤ levels place + 2
 unfolding items_at_end

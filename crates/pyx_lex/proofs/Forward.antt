@@ -17,7 +17,7 @@ use Rattle.pyx_lex.specs.Blanks.{is_blank, blanks, is_line_end, line_len, is_ref
 use Rattle.pyx_lex.specs.Laid.{IsAt, with_front, read, Puts, Takes, TabFits}
 use Rattle.pyx_lex.specs.Layout.{Place, given_at, items_from, items_at_end}
 use Rattle.pyx_lex.specs.Names.{begins_name, name_at, is_reserved, is_wrong_name}
-use Rattle.pyx_lex.specs.Numbers.{number_len, number_value, is_wrong_number}
+use Rattle.pyx_lex.specs.Numbers.{could_go_on, number_value, is_wrong_number}
 use Rattle.pyx_lex.specs.Pieces.{placed, pieces_from, piece_at, is_name, blanks_piece, backslash_piece, comment_piece, number_piece, number_shape, name_piece, name_shape, string_piece, string_shape, sign_piece}
 use Rattle.pyx_lex.specs.Signs.{sign_len}
 use Rattle.pyx_lex.specs.Strings.{begins_string, is_open, string_value}
@@ -172,6 +172,6 @@ tab_fits broken after_name text start n le small =
     tab_pick start (eqb (get_or text 0 0) 92) _ _ (λ h. tab_pick start (is_line_end (drop 1 text)) _ _ (λ h. tt) (λ h. tt)) (λ h.
     tab_pick start (eqb (get_or text 0 0) 35) _ _ (λ h. shape_pick start (broken && eqb (length text) (line_len text)) Cut (Comment (is_refused_directive (take (line_len text) text))) tt tt) (λ h.
     tab_pick start (begins_string text) _ _ (λ h. shape_pick start (broken && is_open text) Cut (string_shape after_name (string_value text)) tt (string_fits start after_name (string_value text))) (λ h.
-    tab_pick start (is_ascii_digit (get_or text 0 0)) _ _ (λ h. shape_pick start (broken && eqb (length text) (number_len text)) Cut (number_shape text) tt (number_fits start text)) (λ h.
+    tab_pick start (is_ascii_digit (get_or text 0 0)) _ _ (λ h. shape_pick start (broken && could_go_on text) Cut (number_shape text) tt (number_fits start text)) (λ h.
     tab_pick start (begins_name text) _ _ (λ h. shape_pick start (broken && eqb (length text) (length (name_at text))) Cut (name_shape (name_at text)) tt (name_fits start (name_at text))) (λ h.
     tab_pick start (eqb (sign_len text) 0) _ _ (λ h. tt) (λ h. tt))))))))

@@ -22,11 +22,11 @@ use Rattle.pyx_lex.specs.declared.token.TokenKind.TheVariants.{Name, Word, Int, 
 use Rattle.pyx_lex.specs.Blanks.{is_blank, blanks, is_line_end, line_len, is_refused_directive}
 use Rattle.pyx_lex.specs.Breaches.{breach, IsNotAfter, IsFirst}
 use Rattle.pyx_lex.specs.Laid.{with_front, read, Puts}
-use Rattle.pyx_lex.specs.Layout.{Item, Comes, Found, token, found, Place, Given, gives, none, moved, behind_blanks, behind_join, behind_comment, tab_items, dedents, level_items, line_items, before_token, rule_of, start_place, ended_line, comment_items, is_before_tokens, given_by, given_at, last_newline, items_at_end, items_from}
+use Rattle.pyx_lex.specs.Layout.{Item, Comes, Found, token, found, Place, Given, gives, none, moved, behind_blanks, behind_join, behind_comment, tab_items, cut_items, dedents, level_items, line_items, before_token, rule_of, start_place, ended_line, comment_items, is_before_tokens, given_by, given_at, last_newline, items_at_end, items_from}
 use Rattle.pyx_lex.specs.Levels.{is_wider, is_open, open_above}
 use Rattle.pyx_lex.specs.Pieces.{piece_at, pieces_from, is_name, blanks_piece, backslash_piece, comment_piece, number_piece, number_shape, name_piece, name_shape, string_piece, string_shape, sign_piece}
 use Rattle.pyx_lex.specs.Names.{begins_name, name_at, is_reserved, is_wrong_name}
-use Rattle.pyx_lex.specs.Numbers.{number_len, number_value, is_wrong_number}
+use Rattle.pyx_lex.specs.Numbers.{could_go_on, number_value, is_wrong_number}
 use Rattle.pyx_lex.specs.Signs.{sign_len}
 use Rattle.pyx_lex.specs.Strings
 use Rattle.pyx_lex.specs.Strings.{begins_string, string_value}
@@ -263,6 +263,15 @@ module _ (place : Place) (at end : ℕ) (before : TabBefore place.line at) (more
       go true r = runs_lower (low place.line at) (low place.line (at + 1)) more (low_up place.line at (at + 1) (omega arith)) r
       go false r = runs_lower (low place.line at) (at + 1) more (omega (arith, low_le place.line at before)) r
 
+  cut_runs : (line : Line) → TabBefore line at → Runs (at + 1) more → Runs (low line at) (breaches_among (cut_items line) ++ more)
+  cut_runs Fresh h r = runs_lower at (at + 1) more (omega arith) r
+  cut_runs (Indented i) h r = go i.tab h
+    where
+      go : (tab : Option ℕ) → ForSome tab (λ t. t < at) → Runs (low_of tab at) (breaches_among (tab_items tab) ++ more)
+      go None b = runs_lower at (at + 1) more (omega arith) r
+      go (Some t) b = let lt : t < at = b t refl in runs_cons t (breach 2 t) (at + 1) more (omega arith) (omega (arith, lt)) r
+  cut_runs Begun h r = runs_lower at (at + 1) more (omega arith) r
+
   -- any piece
   shape_runs : (shape : Shape) → Runs (low (given_by shape place at end).next.line (at + 1)) more
       → Runs (low place.line at) (breaches_among (given_by shape place at end).items ++ more)
@@ -273,7 +282,7 @@ module _ (place : Place) (at end : ℕ) (before : TabBefore place.line at) (more
   shape_runs (Spelled kind) r = spelled_runs kind (subst (λ n. Runs n more) (before_low place.line place at (at + 1) refl) r)
   shape_runs (Faulty f) r = faulty_runs f (subst (λ n. Runs n more) (before_low place.line place at (at + 1) refl) r)
   shape_runs Stray r = runs_cons (low place.line at) (breach 4 at) (at + 1) more (low_le place.line at before) (omega arith) r
-  shape_runs Cut r = runs_lower (low place.line at) (low place.line (at + 1)) more (low_up place.line at (at + 1) (omega arith)) r
+  shape_runs Cut r = cut_runs place.line before r
 
 -- ---- where a tab stands behind a piece
 
@@ -315,7 +324,7 @@ shape_tab place at end n Join len before le far within = go place.line before
 shape_tab place at end n (Spelled kind) len before le far within = before_tab place.line place at n refl
 shape_tab place at end n (Faulty f) len before le far within = before_tab place.line place at n refl
 shape_tab place at end n Stray len before le far within = tt
-shape_tab place at end n Cut len before le far within = tab_up place.line at n le before
+shape_tab place at end n Cut len before le far within = tt
 
 within_pick : (f : Piece → ℕ) (t : Bool) (x y : Piece) → (t ≡ true → TabWithin x.shape (f x)) → (t ≡ false → TabWithin y.shape (f y))
     → TabWithin (cond t x y).shape (f (cond t x y))
@@ -360,7 +369,7 @@ tab_within f broken after_name text le =
     within_pick f (eqb (get_or text 0 0) 92) _ _ (λ h. within_pick f (is_line_end (drop 1 text)) _ _ (λ h. tt) (λ h. tt)) (λ h.
     within_pick f (eqb (get_or text 0 0) 35) _ _ (λ h. within_shape _ (broken && eqb (length text) (line_len text)) Cut (Comment (is_refused_directive (take (line_len text) text))) tt tt) (λ h.
     within_pick f (begins_string text) _ _ (λ h. within_shape _ (broken && Strings.is_open text) Cut (string_shape after_name (string_value text)) tt (string_within _ after_name (string_value text))) (λ h.
-    within_pick f (is_ascii_digit (get_or text 0 0)) _ _ (λ h. within_shape _ (broken && eqb (length text) (number_len text)) Cut (number_shape text) tt (number_within _ text)) (λ h.
+    within_pick f (is_ascii_digit (get_or text 0 0)) _ _ (λ h. within_shape _ (broken && could_go_on text) Cut (number_shape text) tt (number_within _ text)) (λ h.
     within_pick f (begins_name text) _ _ (λ h. within_shape _ (broken && eqb (length text) (length (name_at text))) Cut (name_shape (name_at text)) tt (name_within _ (name_at text))) (λ h.
     within_pick f (eqb (sign_len text) 0) _ _ (λ h. tt) (λ h. tt))))))))
 

@@ -143,6 +143,11 @@ is_before_tokens (w ∷ widths) = false
 abbrev pub comment_items : Bool → List ℕ → ℕ → List Item
 comment_items refused widths at = if refused && is_before_tokens widths then found refused_directive at ∷ [] else []
 
+-- a tab in the indentation of a line whose first token is cut, which stands before what isn't judged
+abbrev pub cut_items : Line → List Item
+cut_items (Indented indentation) = tab_items indentation.tab
+cut_items _ = []
+
 -- Of a line that begins with a character that starts no token nothing is said of its indentation.
 abbrev pub given_by : Shape → Place → ℕ → ℕ → Given
 given_by (Blanks indentation) place start end =
@@ -156,7 +161,7 @@ given_by (Spelled kind) place start end =
 given_by (Faulty fault) place start end =
     also_gives (before_token place.line place start) (found (rule_of fault) start) (λ depth. depth)
 given_by Stray place start end = gives (found stray_character start ∷ []) (record place { line = Begun })
-given_by Cut place start end = gives [] place
+given_by Cut place start end = gives (cut_items place.line) (record place { line = Begun })
 
 unfoldable pub given_at : Placed → Place → Given
 given_at here place = given_by here.piece.shape place here.start (here.start + here.piece.len)

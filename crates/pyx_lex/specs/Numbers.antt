@@ -1,6 +1,6 @@
 -- Integer literals (Python language reference, section 2.4.4). The greatest is 2 ^ 128 - 1, which is the project's own.
 use Prim.Native.Nat.{ℕ}
-use Rattle.std.specs.Prelude.{List, [], ◌∷◌, Bool, ◌&&◌, ◌||◌, ◌==◌, ◌+◌, ◌*◌, ◌^◌, nat_lt, nat_le, if◌then◌else◌, slice_index, take, drop, fold}
+use Rattle.std.specs.Prelude.{List, [], ◌∷◌, Bool, ◌&&◌, ◌||◌, ◌==◌, ◌+◌, ◌*◌, ◌^◌, nat_lt, nat_le, if◌then◌else◌, slice_index, length, take, drop, fold}
 use Rattle.std.specs.Char.{is_digit, digit_value}
 use Rattle.pyx_lex.specs.Names.{begins_with_continue}
 
@@ -45,6 +45,18 @@ number_len text = number_prefix text + number_digits text
 
 abbrev pub number_value : List ℕ → ℕ
 number_value text = digits_value (number_base text) (take (number_digits text) (drop (number_prefix text) text))
+
+-- a base prefix alone, with a `_` behind it or without
+abbrev pub is_base_alone : List ℕ → Bool
+is_base_alone text =
+    nat_lt 0 (prefix_base text) && (length text == 2 || (length text == 3 && slice_index text 2 == 95))
+
+-- A literal at the end of a text could go on where it takes the whole of it, or all but a `_`, or where the text is a
+-- base prefix.
+unfoldable pub could_go_on : List ℕ → Bool
+could_go_on text =
+    let after = drop (number_len text) text in
+    length after == 0 || ((length after == 1 && slice_index after 0 == 95) || is_base_alone text)
 
 -- A literal goes wrong where it is too great, or is directly followed by `.` or by a character of names. A literal that
 -- is malformed is one of the latter: its longest front that is well formed has such a character behind it.

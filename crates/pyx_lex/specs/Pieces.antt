@@ -9,7 +9,7 @@ use Rattle.pyx_lex.specs.declared.piece.Fault.TheVariants as fault
 use Rattle.pyx_lex.specs.declared.token.TokenKind.TheVariants.{Name, Word, Int, Str, Sign}
 use Rattle.pyx_lex.specs.Blanks.{is_blank, blanks, indentation, line_end_len, is_line_end, line_len, is_refused_directive}
 use Rattle.pyx_lex.specs.Names.{begins_name, name_at, is_reserved, is_wrong_name}
-use Rattle.pyx_lex.specs.Numbers.{number_len, number_value, is_wrong_number}
+use Rattle.pyx_lex.specs.Numbers.{number_len, number_value, is_wrong_number, could_go_on}
 use Rattle.pyx_lex.specs.Signs.{sign_len}
 use Rattle.pyx_lex.specs.Strings.{begins_string, is_open, string_len, string_value}
 
@@ -35,7 +35,7 @@ unfoldable pub number_shape : List ℕ → Shape
 number_shape text = if is_wrong_number text then Faulty fault.Int else Spelled (Int (number_value text))
 
 unfoldable pub number_piece : Bool → List ℕ → Piece
-number_piece broken text = piece (cut_or broken text (number_len text) (number_shape text)) (number_len text)
+number_piece broken text = piece (if broken && could_go_on text then Cut else number_shape text) (number_len text)
 
 unfoldable pub name_shape : List ℕ → Shape
 name_shape name =

@@ -5,7 +5,7 @@ ghost use Rattle.std.specs.List.Sorted.{IsStrictlyIncreasing};
 ghost use Rattle.std.specs.Option.{ForSome};
 ghost use Rattle.pyx_lex.specs.Breaches.{breach};
 ghost use Rattle.pyx_lex.specs.Laid.{IsAt, Puts, Takes, TabFits};
-ghost use Rattle.pyx_lex.specs.Layout.{Place, start_place, gives, none, begins_line, behind_blanks, behind_join, behind_comment, before_token, dedents, level_items, depth_behind, also_gives, token, found, rule_of, ended_line, comment_items, given_by, given_at, last_newline, items_at_end};
+ghost use Rattle.pyx_lex.specs.Layout.{Place, start_place, gives, none, begins_line, behind_blanks, behind_join, behind_comment, before_token, dedents, level_items, depth_behind, also_gives, token, found, rule_of, ended_line, comment_items, cut_items, given_by, given_at, last_newline, items_at_end};
 ghost use Rattle.pyx_lex.specs.Pieces.{placed};
 ghost use Rattle.pyx_lex.specs.declared.token.Token.{Token as TokenValue};
 ghost use Rattle.pyx_lex.specs.Levels.{open_widths, open_above, is_wider, is_open, width_before, last_of};
@@ -339,6 +339,27 @@ impl Lines {
         }
     }
 
+    // What is cut isn't judged, but the indentation of its line is.
+    fn cut(&mut self) -> Option<Breach>
+        ensures { (place : Place) → IsAt self.old place → (out : List TokenValue) →
+            Takes result out out self.new (gives (cut_items place.line) (record place { line = Line.Begun })) }
+    {
+        let line = self.line;
+        self.line = Line::Begun;
+        match line {
+            Line::Indented(
+                Indentation {
+                    tab: Some(offset),
+                    ..
+                },
+            ) => Some(Breach {
+                rule: TAB_IN_INDENTATION,
+                offset,
+            }),
+            _ => None,
+        }
+    }
+
     /// Takes a piece that begins at a byte: puts its tokens behind the others, or answers the first breach.
     #[tactic(auto, unfolding(crate::specs::Layout::given_at))]
     pub(crate) fn take(
@@ -370,7 +391,7 @@ impl Lines {
                 rule: STRAY_CHARACTER,
                 offset: start,
             })),
-            Shape::Cut => Ok(None),
+            Shape::Cut => Ok(self.cut()),
         }
     }
 

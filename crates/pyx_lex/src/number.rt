@@ -1,7 +1,7 @@
 //! Integer literals (Python language reference, section 2.4.4).
 ghost use Rattle.std.specs.Prelude.{◌≡◌, ◌≤◌, ◌^◌, ◌+◌, ◌*◌, ◌<◌, length, drop, MatchOption, SomeIff, slice_index, ◌==◌, ◌||◌, IsTrue};
 ghost use Rattle.std.specs.Char.{digit_value, is_digit, is_ascii_digit};
-ghost use Rattle.pyx_lex.specs.Numbers.{digits_len, digits_value, letter_base, prefix_base, has_base, number_base, number_prefix, number_digits, number_len, number_value};
+ghost use Rattle.pyx_lex.specs.Numbers.{digits_len, digits_value, letter_base, prefix_base, has_base, number_base, number_prefix, number_digits, number_len, number_value, could_go_on, is_base_alone};
 ghost use Rattle.pyx_lex.specs.Names.{begins_with_continue};
 ghost use Rattle.pyx_lex.specs.Pieces.{number_piece};
 
@@ -129,6 +129,23 @@ fn runs_on(after: &str) -> bool
     byte_at(after.as_bytes(), 0) == b'.' || begins_with_continue(after)
 }
 
+/// Whether a literal at the end of a text could go on: behind it nothing stands or a `_`, or the text is a base prefix.
+#[tactic(auto, unfolding(crate::specs::Numbers::could_go_on))]
+fn could_go_on(text: &[u8], len: usize) -> bool
+    requires whole { len ≡ number_len text.now }
+    requires within { len ≤ length text.now }
+    ensures { result ≡ could_go_on text.now }
+{
+    let after = &text[len..];
+    after.is_empty() || (after.len() == 1 && byte_at(after, 0) == b'_' || is_base_alone(text))
+}
+
+fn is_base_alone(text: &[u8]) -> bool
+    ensures { result ≡ is_base_alone text.now }
+{
+    prefix_base(text) > 0 && (text.len() == 2 || text.len() == 3 && byte_at(text, 2) == b'_')
+}
+
 /// An integer literal that a text which begins with a digit begins with.
 #[tactic(auto, unfolding(crate::specs::Pieces::number_piece, crate::specs::Pieces::number_shape))]
 pub(crate) fn number_piece(broken: bool, text: &str) -> Piece
@@ -137,7 +154,7 @@ pub(crate) fn number_piece(broken: bool, text: &str) -> Piece
 {
     let literal = literal_at(text.as_bytes());
     let len = literal.prefix + literal.digits;
-    if broken && text.len() == len {
+    if broken && could_go_on(text.as_bytes(), len) {
         return Piece {
             shape: Shape::Cut,
             len,

@@ -122,7 +122,6 @@ fn refusal(file: FileId, found: Breach) -> Refusal
 ///
 /// A file of more than 4,194,304 bytes breaks rule 9 alone.
 pub fn lex(alloc: Global, file: FileId, bytes: &[u8]) -> Result<Tokens, Stop>
-    requires { length bytes.now < 2 ^ 32 }
     ensures tokens { IfOk result (λ found. found.list ≡ tokens bytes.now) }
     ensures accepted { OnOk result (breaches bytes.now ≡ []) }
     ensures ends { IfOk result (λ found. EndsOnce found.list) }
