@@ -1,0 +1,10 @@
+//! The machine that runs C trees over a script, a statement a step.
+#![tactic(auto)]
+
+mod copies;
+mod error;
+mod objects;
+mod operands;
+mod parts;
+
+pub use error::OutOfMemory;
