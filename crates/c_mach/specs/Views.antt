@@ -1,6 +1,5 @@
 -- The machine's parts as the state that they stand for.
 use Rattle.std.specs.Prelude.{ℕ, List, [], ◌∷◌, Option, Some, None, Bool, map, drop, reverse, slice_get, ◌++◌}
-
 use Rattle.c_state.specs.declared.space.Obj.{Obj}
 use Rattle.c_state.specs.declared.space.Entry.{Entry}
 use Rattle.c_state.specs.declared.space.Event.{Event}

@@ -6,5 +6,6 @@ mod error;
 mod objects;
 mod operands;
 mod parts;
+mod readings;
 
 pub use error::OutOfMemory;

@@ -7,6 +7,7 @@ ghost use Rattle.c_mach.specs.Plans.{operand_in, operands_in};
 
 use crate::OutOfMemory;
 use crate::copies::{copy_bytes, copy_obj, copy_value};
+use crate::readings::wrap_int;
 use c_state::{
     Bytes, CItem, CType, CValue, Cell, Kind, Obj, Place, Reading, Spot, Value, Variable,
 };
@@ -78,33 +79,12 @@ pub fn find_module(items: &[CItem]) -> Option<&Bytes>
     None
 }
 
-/// A number as an `int` (ISO/IEC 9899:2011 6.3.1.3, as gcc and clang define it).
-fn low_half(m: u32) -> i128
-    ensures { result ≡ low_half m }
-{
-    if m < 2_147_483_648 {
-        i128::from(m)
-    } else {
-        i128::from(m) - 4_294_967_296
-    }
-}
-
-fn high_half(m: u32) -> i128
-    ensures { result ≡ high_half m }
-{
-    if m < 2_147_483_648 {
-        -1 - i128::from(m)
-    } else {
-        i128::from(4_294_967_295 - m)
-    }
-}
-
 fn int_reading(n: u32) -> Reading
     ensures { result ≡ record { kind = Kind.Int; value = Value.Number (wrap_int (pos n)) } }
 {
     Reading {
         kind: Kind::Int,
-        value: Value::Number(low_half(n)),
+        value: Value::Number(wrap_int(i128::from(n))),
     }
 }
 
