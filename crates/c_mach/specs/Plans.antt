@@ -32,7 +32,7 @@ use Rattle.c_state.specs.declared.state.Doing.TheVariants as doing
 use Rattle.c_state.specs.declared.space.Obj.TheVariants as obj
 use Rattle.c_state.specs.State.{is_module_variable, wrap_int, converts, converted, lookup, spot, has, lose, among_places}
 use Rattle.c_state.specs.Objects.{permanent}
-use Rattle.c_state.specs.Reads.{some_reading, cell_reading, spot_reading, argument_at, definition_reading, module_name, one_more_reading, reads_module_variable, any_module_variable, lends, loans_after, is_set, all_set, is_null, any_null, passed, fits, receives, parameter_kinds, result_kind, values_of}
+use Rattle.c_state.specs.Reads.{some_reading, cell_reading, spot_reading, argument_at, definition_reading, module_name, one_more_reading, reads_module_variable, any_module_variable, lends, is_set, all_set, is_null, any_null, passed, fits, receives, parameter_kinds, result_kind, values_of}
 use Rattle.c_state.specs.Statements.{may_store, moved_out, takes, op_of, error_fault, comparable, same_value, by_comparison, owns_just, owns_none, same_lock}
 use Rattle.c_mach.specs.declared.parts.Standing.{Standing}
 use Rattle.c_mach.specs.declared.parts.Activation.{Activation}
@@ -64,6 +64,11 @@ operand_in items spots cells operand.Definition = definition_reading (module_nam
 abbrev pub operands_in : List CItem → List Spot → List Cell → List CValue → Option (List Reading)
 operands_in items spots cells [] = Some []
 operands_in items spots cells (k ∷ ks) = one_more_reading (operand_in items spots cells k) (operands_in items spots cells ks)
+
+-- the loans that operands make, the oldest first
+abbrev pub loans_in : List CValue → List Reading → List Obj
+loans_in (k ∷ ks) (v ∷ vs) = lends k v ++ loans_in ks vs
+loans_in _ _ = []
 
 -- whether an operand may be read as far as the lock goes
 abbrev pub may_read_with : Bool → CValue → Reading → Bool
@@ -151,7 +156,7 @@ call_fault lock places here x ks vs h =
 abbrev pub call_of : Bool → List (List Spot) → Activation → Option Variable → List CValue → List Reading → Standing → CFunction → Effect
 call_of lock places here x ks vs s fn =
     after (call_fault lock places here x ks vs fn.head)
-    (effect.Call (activated s.file s.item fn (values_of vs) (passed vs) entered.FromC lock) x (loans_after ks vs []))
+    (effect.Call (activated s.file s.item fn (values_of vs) (passed vs) entered.FromC lock) x (loans_in ks vs))
 
 abbrev pub call_plan : List CFile → Bool → List (List Spot) → Activation → Option Variable → List CValue → List Reading → Option Standing → Effect
 call_plan files lock places here x ks vs None = effect.Fault fault.Stuck
@@ -196,7 +201,7 @@ abbrev pub branch_plan : Bool → CValue → Reading → Comparison → CValue �
 branch_plan lock a v r b w None = effect.Fault fault.Stuck
 branch_plan lock a v r b w (Some i) =
     after (branch_fault lock a v b w)
-    (effect.Jump (taken_line (by_comparison r (same_value v.value w.value)) i) (lends b w ++ lends a v))
+    (effect.Jump (taken_line (by_comparison r (same_value v.value w.value)) i) (lends a v ++ lends b w))
 
 abbrev pub jump_plan : Option ℕ → Effect
 jump_plan None = effect.Fault fault.Stuck

@@ -3,6 +3,7 @@
 
 mod copies;
 mod error;
+mod lookups;
 mod objects;
 mod operands;
 mod parts;
