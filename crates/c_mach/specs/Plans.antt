@@ -248,3 +248,8 @@ result_plan error caller here h v lent =
 abbrev pub return_plan : Bool → Option Obj → Option Activation → Activation → CHead → CValue → Reading → Effect
 return_plan lock error caller here h k v =
     after (return_fault lock here h k v) (result_plan error caller here h v.value (lends k v))
+
+-- readings before others, where there are others
+abbrev pub prefixed : List Reading → Option (List Reading) → Option (List Reading)
+prefixed vs None = None
+prefixed vs (Some ws) = Some (vs ++ ws)

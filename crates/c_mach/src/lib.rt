@@ -7,6 +7,7 @@ mod lookups;
 mod objects;
 mod operands;
 mod parts;
+mod plans;
 mod readings;
 
 pub use error::OutOfMemory;

@@ -50,3 +50,19 @@ pub fn has(objects: &[Obj], object: &Obj) -> bool
     }
     false
 }
+
+/// The objects without the first that is the given one.
+pub fn lose(alloc: Global, objects: &[Obj], object: &Obj) -> Result<Items<Obj>, OutOfMemory>
+    ensures { IfOk result (λ l. l ≡ lose objects.now object.now) }
+{
+    let mut kept = Items::new(alloc);
+    let mut lost = false;
+    for other in objects {
+        if !lost && same_obj(other, object) {
+            lost = true;
+        } else {
+            kept.push(copy_obj(alloc, other)?)?;
+        }
+    }
+    Ok(kept)
+}
