@@ -38,7 +38,7 @@ use Rattle.c_mach.specs.declared.parts.Standing.{Standing}
 use Rattle.c_mach.specs.declared.parts.Activation.{Activation}
 use Rattle.c_mach.specs.declared.parts.Effect.{Effect}
 use Rattle.c_mach.specs.declared.parts.Effect.TheVariants as effect
-use Rattle.c_mach.specs.Views.{function_at, activated}
+use Rattle.c_mach.specs.Views.{function_there, activated}
 
 -- a check, before other checks
 abbrev pub checked : Bool → FaultKind → Option FaultKind → Option FaultKind
@@ -158,9 +158,13 @@ call_of lock places here x ks vs s fn =
     after (call_fault lock places here x ks vs fn.head)
     (effect.Call (activated s.file s.item fn (values_of vs) (passed vs) entered.FromC lock) x (loans_in ks vs))
 
+abbrev pub call_there : Bool → List (List Spot) → Activation → Option Variable → List CValue → List Reading → Standing → Option CFunction → Effect
+call_there lock places here x ks vs s None = effect.Fault fault.Stuck
+call_there lock places here x ks vs s (Some fn) = call_of lock places here x ks vs s fn
+
 abbrev pub call_plan : List CFile → Bool → List (List Spot) → Activation → Option Variable → List CValue → List Reading → Option Standing → Effect
 call_plan files lock places here x ks vs None = effect.Fault fault.Stuck
-call_plan files lock places here x ks vs (Some s) = call_of lock places here x ks vs s (function_at files s.file s.item)
+call_plan files lock places here x ks vs (Some s) = call_there lock places here x ks vs s (function_there files s.file s.item)
 
 -- `Py_INCREF(k);` and `Py_DECREF(k);`
 abbrev pub counted_fault : Bool → Reading → Option FaultKind
@@ -208,9 +212,9 @@ jump_plan None = effect.Fault fault.Stuck
 jump_plan (Some i) = effect.Jump (Some i) []
 
 -- `return k;`
-abbrev pub return_fault : Bool → Activation → CHead → CValue → Reading → Option FaultKind
-return_fault lock here h k v =
-    checked (converts v.kind (result_kind h)) fault.Stuck
+abbrev pub return_fault : Bool → Activation → Kind → CValue → Reading → Option FaultKind
+return_fault lock here to k v =
+    checked (converts v.kind to) fault.Stuck
     (checked (is_set v.value) fault.Undefined
     (checked (may_read_with lock k v && same_lock lock here.lock) fault.Unlocked None))
 
@@ -237,17 +241,17 @@ null_with caller here None lent = effect.Fault fault.ErrorLost
 null_with caller here (Some e) lent =
     after (checked (owns_none here.own) fault.Unbalanced None) (null_plan caller here.entered e lent)
 
-abbrev pub result_plan : Option Obj → Option Activation → Activation → CHead → Value → List Obj → Effect
-result_plan error caller here h (value.Object o) lent =
+abbrev pub result_plan : Option Obj → Option Activation → Activation → Kind → Value → List Obj → Effect
+result_plan error caller here to (value.Object o) lent =
     after (checked (is_none error) fault.ErrorSet (checked (owns_just here.own o) fault.Unbalanced None))
     (object_plan caller here.entered o lent)
-result_plan error caller here h value.Null lent = null_with caller here error lent
-result_plan error caller here h v lent =
-    after (checked (owns_none here.own) fault.Unbalanced None) (hand_plan caller (converted (result_kind h) v) [] lent)
+result_plan error caller here to value.Null lent = null_with caller here error lent
+result_plan error caller here to v lent =
+    after (checked (owns_none here.own) fault.Unbalanced None) (hand_plan caller (converted to v) [] lent)
 
-abbrev pub return_plan : Bool → Option Obj → Option Activation → Activation → CHead → CValue → Reading → Effect
-return_plan lock error caller here h k v =
-    after (return_fault lock here h k v) (result_plan error caller here h v.value (lends k v))
+abbrev pub return_plan : Bool → Option Obj → Option Activation → Activation → Kind → CValue → Reading → Effect
+return_plan lock error caller here to k v =
+    after (return_fault lock here to k v) (result_plan error caller here to v.value (lends k v))
 
 -- readings before others, where there are others
 abbrev pub prefixed : List Reading → Option (List Reading) → Option (List Reading)

@@ -1,5 +1,5 @@
 -- The machine's parts as the state that they stand for.
-use Rattle.std.specs.Prelude.{ℕ, List, [], ◌∷◌, Option, Some, None, Bool, map, drop, reverse, slice_get, ◌++◌}
+use Rattle.std.specs.Prelude.{ℕ, List, [], ◌∷◌, Option, Some, None, Bool, map, drop, reverse, slice_get, unwrap_or, ◌++◌}
 use Rattle.c_state.specs.declared.space.Obj.{Obj}
 use Rattle.c_state.specs.declared.space.Entry.{Entry}
 use Rattle.c_state.specs.declared.space.Event.{Event}
@@ -20,16 +20,20 @@ use Rattle.c_mach.specs.declared.parts.Standing.{Standing}
 use Rattle.c_mach.specs.declared.parts.Activation.{Activation}
 use Rattle.c_mach.specs.declared.parts.Core.{Core}
 
--- the function of an item, or one without lines
+-- the function of an item, if it is one
+abbrev pub as_function : Option CItem → Option CFunction
+as_function (Some (item.Function f)) = Some f
+as_function _ = None
+
+abbrev pub function_there : List CFile → ℕ → ℕ → Option CFunction
+function_there files k i = as_function (slice_get (items_at files k) i)
+
+-- the same, or a function without lines
 abbrev pub no_function : CFunction
 no_function = record { head = head.Initializer []; declarations = []; lines = [] }
 
-abbrev pub function_of : Option CItem → CFunction
-function_of (Some (item.Function f)) = f
-function_of _ = no_function
-
 abbrev pub function_at : List CFile → ℕ → ℕ → CFunction
-function_at files k i = function_of (slice_get (items_at files k) i)
+function_at files k i = unwrap_or (function_there files k i) no_function
 
 -- the function that stands there
 abbrev pub found_at : List CFile → Option Standing → Found

@@ -2,6 +2,7 @@
 #![tactic(auto)]
 
 mod copies;
+mod entering;
 mod error;
 mod lookups;
 mod objects;

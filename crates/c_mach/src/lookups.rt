@@ -3,7 +3,7 @@ ghost use Rattle.std.specs.Prelude.{◌≡◌, ◌∷◌, ℕ, Bool, Some, IsTru
 ghost use Rattle.std.specs.Option.{option_copied};
 ghost use Rattle.c_state.specs.State.{spots_at};
 ghost use Rattle.c_state.specs.Reads.{items_at, is_one, holds_one, spot_holds_one, is_ready, method_row, method_in, is_named, module_from, module_name};
-ghost use Rattle.c_mach.specs.Views.{no_function, function_of, function_at};
+ghost use Rattle.c_mach.specs.Views.{as_function, function_there};
 ghost use Rattle.c_mach.specs.Lookups.{label_line, Next, Lines, NoLine, next_line, is_wanted, standing_from, or_else, standing_among, wrapper_standing, standing_named, row_standing, standing_in, standing_entered, standing_next};
 
 use crate::operands::{find_module, find_spot};
@@ -100,8 +100,8 @@ pub fn find_initializer(files: &[CFile], begun: usize) -> Option<Standing>
     find_among(files, begun, Wanted::Initializer)
 }
 
-fn function_of(item: Option<&CItem>) -> Option<&CFunction>
-    ensures { MatchOption result (function_of (option_copied item.entry) ≡ no_function) (λ f. function_of (option_copied item.entry) ≡ f.now) }
+fn as_function(item: Option<&CItem>) -> Option<&CFunction>
+    ensures { option_copied result ≡ as_function (option_copied item.entry) }
 {
     match item {
         Some(CItem::Function(function)) => Some(function),
@@ -110,10 +110,10 @@ fn function_of(item: Option<&CItem>) -> Option<&CFunction>
 }
 
 /// The function that stands there.
-pub fn function_at(files: &[CFile], file: usize, item: usize) -> Option<&CFunction>
-    ensures { MatchOption result (function_at files.now file item ≡ no_function) (λ f. function_at files.now file item ≡ f.now) }
+pub fn function_there(files: &[CFile], file: usize, item: usize) -> Option<&CFunction>
+    ensures { option_copied result ≡ function_there files.now file item }
 {
-    function_of(items_at(files, file).get(item))
+    as_function(items_at(files, file).get(item))
 }
 
 fn holds_one(value: &Value) -> bool

@@ -1,11 +1,11 @@
 //! What a statement comes to: its faults in their order, and its effect. Nothing is changed here.
-ghost use Rattle.std.specs.Prelude.{◌≡◌, ◌∷◌, ◌++◌, [], ℕ, Bool, Option, Some, None, IfOk, List, slice_get};
-ghost use Rattle.c_state.specs.declared.tree.CHead.{CHead};
+ghost use Rattle.std.specs.Prelude.{◌≡◌, is_none, ◌∷◌, ◌++◌, [], ℕ, Bool, Option, Some, None, IfOk, List, slice_get};
+ghost use Rattle.c_state.specs.declared.state.Kind.{Kind};
 ghost use Rattle.std.specs.Option.{option_copied};
 ghost use Rattle.c_state.specs.State.{lose};
 ghost use Rattle.c_state.specs.Reads.{passed_with, passed, fits, parameter_kinds_of, parameter_kinds, result_kind, values_of};
-ghost use Rattle.c_state.specs.Statements.{takes, object_of, text_of, definition_of, binary_op, module_op, dict_op, import_op, fail_op, op_of, error_fault, moved_out};
-ghost use Rattle.c_mach.specs.Plans.{after, operands_in, loans_in, write_fault, write_plan, unowned, store_fault, own_after_store, store_plan, row_accepts, row_fault, ask_fault, ask_plan, row_plan, counted_fault, gain_of, gain_plan, loss_of, loss_plan, branch_fault, taken_line, branch_plan, jump_plan, return_fault, hand_by, hand_plan, object_plan, null_plan, null_with, result_plan, return_plan};
+ghost use Rattle.c_state.specs.Statements.{takes, object_of, text_of, definition_of, binary_op, module_op, dict_op, import_op, fail_op, op_of, error_fault, moved_out, owns_just, owns_none};
+ghost use Rattle.c_mach.specs.Plans.{checked, after, operands_in, loans_in, write_fault, write_plan, unowned, store_fault, own_after_store, store_plan, row_accepts, row_fault, ask_fault, ask_plan, row_plan, counted_fault, gain_of, gain_plan, loss_of, loss_plan, branch_fault, taken_line, branch_plan, jump_plan, return_fault, hand_by, hand_plan, object_plan, null_plan, null_with, result_plan, return_plan};
 
 use crate::OutOfMemory;
 use crate::copies::{copy_bytes, copy_obj, copy_objs, copy_value, with_first};
@@ -198,6 +198,7 @@ fn takes(row: ApiRow) -> &'static [Kind]
     }
 }
 
+#[tactic(auto, using(crate::proofs::Fits::fits_ends))]
 /// Whether operands have the number and the types that are wanted.
 pub fn fits(kinds: &[Kind], vs: &[Reading]) -> bool
     ensures { result ≡ fits kinds.now vs.now }
@@ -517,7 +518,7 @@ pub fn branch_plan(
     right: Side<'_>,
     line: Option<usize>,
 ) -> Planned
-    ensures { IfOk result (λ e. e ≡ branch_plan lock left.operand.now left.reading.now comparison right.operand.now right.reading.now line) }
+    ensures { IfOk result (λ e. e ≡ branch_plan lock left.entry.operand.now left.entry.reading.now comparison right.entry.operand.now right.entry.reading.now line) }
 {
     let Some(line) = line else {
         return Ok(Effect::Fault(FaultKind::Stuck));
@@ -555,7 +556,7 @@ fn return_fault(
     k: &CValue,
     v: &Reading,
 ) -> Option<FaultKind>
-    ensures { (h : CHead) → to ≡ result_kind h → result ≡ return_fault lock here.now h k.now v.now }
+    ensures { result ≡ return_fault lock here.now to k.now v.now }
 {
     if !converts(v.kind, to) {
         return Some(FaultKind::Stuck);
@@ -567,4 +568,175 @@ fn return_fault(
         return Some(FaultKind::Unlocked);
     }
     None
+}
+
+// Hands a value to the caller, which then owns the given objects.
+fn hand(doing: &Doing, value: Value, own: Items<Obj>, lent: Items<Obj>) -> Effect
+    ensures { result ≡ hand_by doing.now own value [] lent }
+{
+    match doing {
+        Doing::Waits(x) => Effect::Hand(*x, value, own, lent),
+        _ => Effect::Fault(FaultKind::Stuck),
+    }
+}
+
+fn hand_plan(alloc: Global, caller: Option<&Activation>, value: Value, lent: Items<Obj>) -> Planned
+    ensures { IfOk result (λ e. e ≡ hand_plan (option_copied caller.entry) value [] lent) }
+{
+    let Some(caller) = caller else {
+        return Ok(Effect::Fault(FaultKind::Stuck));
+    };
+    let own = copy_objs(alloc, caller.own.as_slice())?;
+    Ok(hand(&caller.doing, value, own, lent))
+}
+
+fn hand_object(
+    alloc: Global,
+    caller: Option<&Activation>,
+    object: &Obj,
+    lent: Items<Obj>,
+) -> Planned
+    ensures { IfOk result (λ e. e ≡ hand_plan (option_copied caller.entry) (Value.Object object.now) (object.now ∷ []) lent) }
+{
+    let Some(caller) = caller else {
+        return Ok(Effect::Fault(FaultKind::Stuck));
+    };
+    let own = with_first(alloc, copy_obj(alloc, object)?, caller.own.as_slice())?;
+    let value = Value::Object(copy_obj(alloc, object)?);
+    Ok(hand(&caller.doing, value, own, lent))
+}
+
+fn object_plan(
+    alloc: Global,
+    caller: Option<&Activation>,
+    entered: Entered,
+    object: &Obj,
+    lent: Items<Obj>,
+) -> Planned
+    ensures { IfOk result (λ e. e ≡ object_plan (option_copied caller.entry) entered object.now lent) }
+{
+    match entered {
+        Entered::FromC => hand_object(alloc, caller, object, lent),
+        Entered::FromOutside | Entered::ForInitialisation => {
+            Ok(Effect::Leave(copy_obj(alloc, object)?, lent))
+        }
+    }
+}
+
+fn null_plan(
+    alloc: Global,
+    caller: Option<&Activation>,
+    entered: Entered,
+    error: &Obj,
+    lent: Items<Obj>,
+) -> Planned
+    ensures { IfOk result (λ e. e ≡ null_plan (option_copied caller.entry) entered error.now lent) }
+{
+    match entered {
+        Entered::FromC => hand_plan(alloc, caller, Value::Null, lent),
+        Entered::FromOutside => Ok(Effect::LeaveRaise(copy_obj(alloc, error)?, false, lent)),
+        Entered::ForInitialisation => Ok(Effect::LeaveRaise(copy_obj(alloc, error)?, true, lent)),
+    }
+}
+
+fn null_with(
+    alloc: Global,
+    caller: Option<&Activation>,
+    here: &Activation,
+    error: &Option<Obj>,
+    lent: Items<Obj>,
+) -> Planned
+    ensures { IfOk result (λ e. e ≡ null_with (option_copied caller.entry) here.now error.now lent) }
+{
+    let Some(error) = error else {
+        return Ok(Effect::Fault(FaultKind::ErrorLost));
+    };
+    if !owns_none(here.own.as_slice()) {
+        return Ok(Effect::Fault(FaultKind::Unbalanced));
+    }
+    null_plan(alloc, caller, here.entered, error, lent)
+}
+
+fn object_fault(error: &Option<Obj>, own: &[Obj], object: &Obj) -> Option<FaultKind>
+    ensures { result ≡ checked (is_none error.now) FaultKind.ErrorSet (checked (owns_just own.now object.now) FaultKind.Unbalanced None) }
+{
+    if error.is_some() {
+        return Some(FaultKind::ErrorSet);
+    }
+    if !owns_just(own, object) {
+        return Some(FaultKind::Unbalanced);
+    }
+    None
+}
+
+fn object_with(
+    alloc: Global,
+    error: &Option<Obj>,
+    caller: Option<&Activation>,
+    here: &Activation,
+    object: &Obj,
+    lent: Items<Obj>,
+) -> Planned
+    ensures { IfOk result (λ e. e ≡ after (checked (is_none error.now) FaultKind.ErrorSet (checked (owns_just here.now.own object.now) FaultKind.Unbalanced None)) (object_plan (option_copied caller.entry) here.now.entered object.now lent)) }
+{
+    if let Some(fault) = object_fault(error, here.own.as_slice(), object) {
+        return Ok(Effect::Fault(fault));
+    }
+    object_plan(alloc, caller, here.entered, object, lent)
+}
+
+fn number_with(
+    alloc: Global,
+    caller: Option<&Activation>,
+    here: &Activation,
+    value: Value,
+    lent: Items<Obj>,
+) -> Planned
+    ensures { IfOk result (λ e. e ≡ after (checked (owns_none here.now.own) FaultKind.Unbalanced None) (hand_plan (option_copied caller.entry) value [] lent)) }
+{
+    if !owns_none(here.own.as_slice()) {
+        return Ok(Effect::Fault(FaultKind::Unbalanced));
+    }
+    hand_plan(alloc, caller, value, lent)
+}
+
+fn result_plan(
+    alloc: Global,
+    error: &Option<Obj>,
+    caller: Option<&Activation>,
+    here: &Activation,
+    to: Kind,
+    value: &Value,
+    lent: Items<Obj>,
+) -> Planned
+    ensures { IfOk result (λ e. e ≡ result_plan error.now (option_copied caller.entry) here.now to value.now lent) }
+{
+    match value {
+        Value::Object(object) => object_with(alloc, error, caller, here, object, lent),
+        Value::Null => null_with(alloc, caller, here, error, lent),
+        _ => {
+            let value = converted(to, copy_value(alloc, value)?);
+            number_with(alloc, caller, here, value, lent)
+        }
+    }
+}
+
+/// `return k;`
+pub fn return_plan(
+    alloc: Global,
+    lock: bool,
+    error: &Option<Obj>,
+    caller: Option<&Activation>,
+    here: &Activation,
+    to: Kind,
+    k: &CValue,
+    v: &Reading,
+) -> Planned
+    ensures { IfOk result (λ e. e ≡ return_plan lock error.now (option_copied caller.entry) here.now to k.now v.now) }
+{
+    if let Some(fault) = return_fault(lock, here, to, k, v) {
+        return Ok(Effect::Fault(fault));
+    }
+    let lent = lends(alloc, k, v)?;
+    result_plan(alloc, error, caller, here, to, &v.value, lent)
 }
