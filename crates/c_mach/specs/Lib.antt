@@ -1,3 +1,4 @@
 pub mod Lookups
 pub mod Plans
+pub mod Scenes
 pub mod Views

@@ -30,15 +30,18 @@ use Rattle.c_state.specs.declared.state.Entered.TheVariants as entered
 use Rattle.c_state.specs.declared.state.Doing.{Doing}
 use Rattle.c_state.specs.declared.state.Doing.TheVariants as doing
 use Rattle.c_state.specs.declared.space.Obj.TheVariants as obj
-use Rattle.c_state.specs.State.{is_module_variable, wrap_int, converts, converted, lookup, spot, has, lose, among_places}
+use Rattle.c_state.specs.State.{is_module_variable, wrap_int, converts, converted, lookup, spot, has, lose, among_places, spots_at}
 use Rattle.c_state.specs.Objects.{permanent}
-use Rattle.c_state.specs.Reads.{some_reading, cell_reading, spot_reading, argument_at, definition_reading, module_name, one_more_reading, reads_module_variable, any_module_variable, lends, is_set, all_set, is_null, any_null, passed, fits, receives, parameter_kinds, result_kind, values_of}
+use Rattle.c_state.specs.Reads.{items_at, some_reading, cell_reading, spot_reading, argument_at, definition_reading, module_name, one_more_reading, reads_module_variable, any_module_variable, lends, is_set, all_set, is_null, any_null, passed, fits, receives, parameter_kinds, result_kind, values_of}
 use Rattle.c_state.specs.Statements.{may_store, moved_out, takes, op_of, error_fault, comparable, same_value, by_comparison, owns_just, owns_none, same_lock}
 use Rattle.c_mach.specs.declared.parts.Standing.{Standing}
 use Rattle.c_mach.specs.declared.parts.Activation.{Activation}
 use Rattle.c_mach.specs.declared.parts.Effect.{Effect}
 use Rattle.c_mach.specs.declared.parts.Effect.TheVariants as effect
-use Rattle.c_mach.specs.Views.{function_there, activated}
+use Rattle.c_mach.specs.Views.{function_there, function_at, activated}
+use Rattle.c_mach.specs.Lookups.{label_line, standing_named}
+use Rattle.c_state.specs.declared.tree.CStmt.{CStmt}
+use Rattle.c_state.specs.declared.tree.CStmt.TheVariants as stmt
 
 -- a check, before other checks
 abbrev pub checked : Bool → FaultKind → Option FaultKind → Option FaultKind
@@ -257,3 +260,46 @@ return_plan lock error caller here to k v =
 abbrev pub prefixed : List Reading → Option (List Reading) → Option (List Reading)
 prefixed vs None = None
 prefixed vs (Some ws) = Some (vs ++ ws)
+
+-- what follows an operand that was read
+abbrev pub read_then : {A : Type 0} → Option A → (A → Effect) → Effect
+read_then None e = effect.Fault fault.Stuck
+read_then (Some v) e = e v
+
+-- the parts of the state that a statement reads
+pub record Scene : Type 0 where
+  pub files : List CFile
+  pub places : List (List Spot)
+  pub lock : Bool
+  pub error : Option Obj
+  pub loans : List Obj
+  pub here : Activation
+  pub caller : Option Activation
+
+abbrev pub function_here : Scene → CFunction
+function_here s = function_at s.files s.here.file s.here.item
+
+abbrev pub spots_here : Scene → List Spot
+spots_here s = spots_at s.places s.here.file
+
+abbrev pub operand_here : Scene → CValue → Option Reading
+operand_here s k = operand_in (items_at s.files s.here.file) (spots_here s) s.here.variables k
+
+abbrev pub operands_here : Scene → List CValue → Option (List Reading)
+operands_here s ks = operands_in (items_at s.files s.here.file) (spots_here s) s.here.variables ks
+
+abbrev pub assign_plan : Scene → Target → CValue → Reading → Effect
+assign_plan s (target.Variable x) k v = write_plan s.lock x k v (lookup s.here.variables x)
+assign_plan s (target.Place p) k v = store_plan s.lock s.here.own p k v (spot (spots_here s) p)
+
+-- what a statement comes to
+abbrev pub plan : Scene → CStmt → Effect
+plan s (stmt.Assign t k) = read_then (operand_here s k) (assign_plan s t k)
+plan s (stmt.Api x r ks) = read_then (operands_here s ks) (row_plan s.lock s.error s.places s.here x r)
+plan s (stmt.Call x name ks) = read_then (operands_here s ks) (λ vs. call_plan s.files s.lock s.places s.here x ks vs (standing_named s.files s.here.file name))
+plan s (stmt.Incref k) = read_then (operand_here s k) (gain_plan s.lock s.places s.loans s.here k)
+plan s (stmt.Decref k) = read_then (operand_here s k) (loss_plan s.lock s.here.own)
+plan s (stmt.GotoIf a r b l) =
+    read_then (operand_here s a) (λ v. read_then (operand_here s b) (λ w. branch_plan s.lock a v r b w (label_line (function_here s).lines l)))
+plan s (stmt.Goto l) = jump_plan (label_line (function_here s).lines l)
+plan s (stmt.Return k) = read_then (operand_here s k) (return_plan s.lock s.error s.caller s.here (result_kind (function_here s).head) k)

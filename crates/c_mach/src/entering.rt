@@ -3,7 +3,7 @@ ghost use Rattle.std.specs.Prelude.{◌≡◌, not, ◌||◌, ◌∷◌, ◌++�
 ghost use Rattle.std.specs.Option.{option_copied};
 ghost use Rattle.c_state.specs.Reads.{any_module_variable, fits, receives, all_set, parameter_kinds_of, parameter_kinds, result_kind, values_of, zero_of, initial_value, declared_cell, plain_cells, wrapper_cells, parameter_cells, passed};
 ghost use Rattle.c_mach.specs.Views.{activated};
-ghost use Rattle.c_mach.specs.Plans.{loans_in, checked, after, call_fault, call_of, call_there, call_plan};
+ghost use Rattle.c_mach.specs.Plans.{loans_in, checked, after, all_held_in, call_of, call_plan};
 
 use crate::OutOfMemory;
 use crate::copies::{copy_obj, copy_value};
@@ -194,6 +194,91 @@ fn parameter_cells(
         CHead::Plain(_, _, _, parameters) => plain_cells(alloc, parameters.as_slice(), values),
         CHead::Wrapper(_, _) => wrapper_cells(alloc, values),
         CHead::Initializer(_) => Ok(Items::new(alloc)),
+    }
+}
+
+fn call_enter(
+    alloc: Global,
+    entrance: Entrance,
+    x: Option<Variable>,
+    ks: &[CValue],
+    vs: &[Reading],
+    function: &CFunction,
+    lent: Items<Obj>,
+) -> Result<Effect, OutOfMemory>
+    ensures { IfOk result (λ e. e ≡ Effect.Call (activated entrance.standing.file entrance.standing.item function.now (values_of vs.now) lent entrance.entered entrance.lock) x (loans_in ks.now vs.now)) }
+{
+    let values = values_of(alloc, vs)?;
+    let frame = activate(alloc, entrance, function, values.as_slice(), lent)?;
+    Ok(Effect::Call(frame, x, loans_in(alloc, ks, vs)?))
+}
+
+fn call_held(
+    alloc: Global,
+    lock: bool,
+    places: &[Items<Spot>],
+    here: &Activation,
+    x: Option<Variable>,
+    ks: &[CValue],
+    vs: &[Reading],
+    standing: Standing,
+    function: &CFunction,
+) -> Result<Effect, OutOfMemory>
+    ensures { IfOk result (λ e. e ≡ after (checked (all_held_in places.now here.now (passed vs.now)) FaultKind.Unheld None)
+        (Effect.Call (activated standing.file standing.item function.now (values_of vs.now) (passed vs.now) Entered.FromC lock) x (loans_in ks.now vs.now))) }
+{
+    let lent = passed(alloc, vs)?;
+    if !all_held(places, here, lent.as_slice()) {
+        return Ok(Effect::Fault(FaultKind::Unheld));
+    }
+    let entrance = Entrance {
+        standing,
+        entered: Entered::FromC,
+        lock,
+    };
+    call_enter(alloc, entrance, x, ks, vs, function, lent)
+}
+
+fn call_of(
+    alloc: Global,
+    lock: bool,
+    places: &[Items<Spot>],
+    here: &Activation,
+    x: Option<Variable>,
+    ks: &[CValue],
+    vs: &[Reading],
+    standing: Standing,
+    function: &CFunction,
+) -> Result<Effect, OutOfMemory>
+    ensures { IfOk result (λ e. e ≡ call_of lock places.now here.now x ks.now vs.now standing function.now) }
+{
+    let kinds = parameter_kinds(alloc, &function.head)?;
+    if let Some(fault) = call_fault(lock, here, x, kinds.as_slice(), ks, vs, &function.head) {
+        return Ok(Effect::Fault(fault));
+    }
+    call_held(alloc, lock, places, here, x, ks, vs, standing, function)
+}
+
+/// `x = cyc_f_M_K(k, ..);`
+pub fn call_plan(
+    alloc: Global,
+    files: &[CFile],
+    lock: bool,
+    places: &[Items<Spot>],
+    here: &Activation,
+    x: Option<Variable>,
+    ks: &[CValue],
+    vs: &[Reading],
+    standing: Option<Standing>,
+) -> Result<Effect, OutOfMemory>
+    ensures { IfOk result (λ e. e ≡ call_plan files.now lock places.now here.now x ks.now vs.now standing) }
+{
+    let Some(standing) = standing else {
+        return Ok(Effect::Fault(FaultKind::Stuck));
+    };
+    match function_there(files, standing.file, standing.item) {
+        None => Ok(Effect::Fault(FaultKind::Stuck)),
+        Some(function) => call_of(alloc, lock, places, here, x, ks, vs, standing, function),
     }
 }
 

@@ -10,5 +10,7 @@ mod operands;
 mod parts;
 mod plans;
 mod readings;
+mod scenes;
+mod statements;
 
 pub use error::OutOfMemory;
