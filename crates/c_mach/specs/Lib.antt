@@ -1,3 +1,4 @@
+pub mod Effects
 pub mod Lookups
 pub mod Plans
 pub mod Scenes

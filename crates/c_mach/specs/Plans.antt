@@ -148,18 +148,20 @@ row_plan lock error places here x r vs =
     after (row_fault here.variables x r vs) (ask_plan lock error places here x r vs (op_of r vs))
 
 -- `x = cyc_f_M_K(k, ..);`
-abbrev pub call_fault : Bool → List (List Spot) → Activation → Option Variable → List CValue → List Reading → CHead → Option FaultKind
-call_fault lock places here x ks vs h =
+abbrev pub call_fault : Bool → Activation → Option Variable → List CValue → List Reading → CHead → Option FaultKind
+call_fault lock here x ks vs h =
     checked (fits (parameter_kinds h) vs) fault.Stuck
     (checked (receives here.variables x (result_kind h)) fault.Stuck
     (checked (all_set vs) fault.Undefined
-    (checked (not (any_module_variable ks vs) || lock) fault.Unlocked
-    (checked (all_held_in places here (passed vs)) fault.Unheld None))))
+    (checked (not (any_module_variable ks vs) || lock) fault.Unlocked None)))
+
+abbrev pub call_held : Bool → List (List Spot) → Activation → Option Variable → List CValue → List Reading → Standing → CFunction → Effect
+call_held lock places here x ks vs s fn =
+    after (checked (all_held_in places here (passed vs)) fault.Unheld None)
+    (effect.Call (activated s.file s.item fn (values_of vs) (passed vs) entered.FromC lock) x (loans_in ks vs))
 
 abbrev pub call_of : Bool → List (List Spot) → Activation → Option Variable → List CValue → List Reading → Standing → CFunction → Effect
-call_of lock places here x ks vs s fn =
-    after (call_fault lock places here x ks vs fn.head)
-    (effect.Call (activated s.file s.item fn (values_of vs) (passed vs) entered.FromC lock) x (loans_in ks vs))
+call_of lock places here x ks vs s fn = after (call_fault lock here x ks vs fn.head) (call_held lock places here x ks vs s fn)
 
 abbrev pub call_there : Bool → List (List Spot) → Activation → Option Variable → List CValue → List Reading → Standing → Option CFunction → Effect
 call_there lock places here x ks vs s None = effect.Fault fault.Stuck

@@ -36,9 +36,13 @@ abbrev pub function_at : List CFile → ℕ → ℕ → CFunction
 function_at files k i = unwrap_or (function_there files k i) no_function
 
 -- the function that stands there
+abbrev pub found_with : ℕ → Option CFunction → Found
+found_with k None = NotFound
+found_with k (Some f) = FoundFunction k f
+
 abbrev pub found_at : List CFile → Option Standing → Found
 found_at files None = NotFound
-found_at files (Some s) = FoundFunction s.file (function_at files s.file s.item)
+found_at files (Some s) = found_with s.file (function_there files s.file s.item)
 
 -- the frame of a function of the files
 abbrev pub frame_by : CFunction → Activation → Frame
