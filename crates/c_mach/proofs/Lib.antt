@@ -1,3 +1,4 @@
 pub mod Fits
 pub mod Pairs
+pub mod Planned
 pub mod Searches
