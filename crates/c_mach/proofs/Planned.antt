@@ -21,6 +21,7 @@ use Rattle.c_state.specs.declared.tree.CFile.{CFile}
 use Rattle.c_state.specs.declared.state.FaultKind.{FaultKind}
 use Rattle.c_state.specs.declared.state.FaultKind.TheVariants as fault
 use Rattle.c_state.specs.declared.state.Kind.{Kind}
+use Rattle.c_state.specs.declared.state.Kind.TheVariants as kind
 use Rattle.c_state.specs.declared.state.Value.{Value}
 use Rattle.c_state.specs.declared.state.Value.TheVariants as value
 use Rattle.c_state.specs.declared.state.Reading.{Reading}
@@ -31,14 +32,14 @@ use Rattle.c_state.specs.declared.state.Entered.TheVariants as entered
 use Rattle.c_state.specs.declared.state.Doing.{Doing}
 use Rattle.c_state.specs.declared.state.Doing.TheVariants as doing
 use Rattle.c_state.specs.Objects.{same_obj}
-use Rattle.c_state.specs.State.{converts, lookup, spot, spots_at, has, lose, held, all_held, put, converted, Frame, CState}
-use Rattle.c_state.specs.Reads.{is_set, any_null, all_set, fits, read, read_each, one_more_reading, reads_module_variable, lends, loans_after, object_in, passed, receives, result_kind, items_at, Found, FoundFunction, NotFound, after_label, values_of}
+use Rattle.c_state.specs.State.{put_to, converts, lookup, spot, spots_at, has, lose, held, all_held, put, converted, Frame, CState}
+use Rattle.c_state.specs.Reads.{is_null, frame_of, parameter_kinds, any_module_variable, is_set, any_null, all_set, fits, read, read_each, one_more_reading, reads_module_variable, lends, loans_after, object_in, passed, receives, result_kind, items_at, Found, FoundFunction, NotFound, after_label, values_of}
 use Rattle.c_state.specs.Statements.{asking, store, may_store, error_fault, Moved, Went, Faulted, need, need_some, on, off, lend, assign, assign_variable, assign_place, store_value, row_result, ask, api, call_found, call, owned_more, owned_less, counted, incref, decref, branch, goto_if, to_caller, to_waiting, hand_object, hand_null, return_value, return_it, act, op_of, moved_out, comparable, same_value, by_comparison, takes}
 use Rattle.c_mach.specs.declared.parts.Standing.{Standing}
 use Rattle.c_mach.specs.declared.parts.Activation.{Activation}
 use Rattle.c_mach.specs.declared.parts.Effect.{Effect}
 use Rattle.c_mach.specs.declared.parts.Effect.TheVariants as effect
-use Rattle.c_mach.specs.Views.{function_there, found_at, found_with, frame_by, frame_view, activated}
+use Rattle.c_mach.specs.Views.{function_there, found_at, found_with, frame_by, frame_view, activated, no_function}
 use Rattle.c_mach.specs.Lookups.{label_line, standing_named}
 use Rattle.c_mach.specs.Plans.{checked, after, may_write_with, operand_in, operands_in, loans_in, may_read_with, held_in, all_held_in, write_plan, unowned, own_after_store, store_plan, row_accepts, row_plan, ask_plan, call_held, call_of, call_there, call_plan, gain_of, gain_plan, loss_of, loss_plan, taken_line, branch_plan, jump_plan, hand_by, hand_plan, object_plan, null_plan, null_with, result_plan, return_plan, read_then, Scene, function_here, spots_here, operand_here, operands_here, assign_plan, plan}
 use Rattle.c_mach.specs.Effects.{lend_all, jumped, handed, effected}
@@ -189,3 +190,164 @@ row-is h fn a ls x r vs e =
     ∙ ap (λ b. need (fits (takes r) vs) fault.Stuck (need (not (any_null vs)) fault.Stuck (need b fault.Stuck (need (all_set vs) fault.Undefined
     (need_some (op_of r vs) fault.Stuck (ask h.state h.frame h.below x r vs))))))
     (ap (λ f. row_accepts r f.variables x) (sym e) ∙ accepts-is r h.frame x)
+
+-- `x = cyc_f_M_K(k, ..);`
+loans-is : (ks : List CValue) (vs : List Reading) (loans : List Obj) → reverse (loans_in ks vs) ++ loans ≡ loans_after ks vs loans
+loans-is [] vs loans = refl
+loans-is (k ∷ ks) [] loans = refl
+loans-is (k ∷ ks) (v ∷ vs) loans =
+    ap (λ l. l ++ loans) (reverse-append (lends k v) (loans_in ks vs))
+    ∙ (append_assoc (reverse (loans_in ks vs)) (reverse (lends k v)) loans
+    ∙ (ap (λ l. reverse (loans_in ks vs) ++ (l ++ loans)) (reverse-lends k v)
+    ∙ loans-is ks vs (lends k v ++ loans)))
+
+abbrev at : List CFile → CState → CFunction → Activation → List Line → List Frame → Here
+at files c fn a ls fs = record { files = files; state = c; frame = frame_at fn a ls; below = fs }
+
+entered-is : (h : Here) (k i : ℕ) (fn : CFunction) (vs : List Value) (os : List Obj) (by : Entered) (lock : Bool)
+    → function_there h.files k i ≡ Some fn → frame_view h.files (activated k i fn vs os by lock) ≡ frame_of k fn vs os by lock
+entered-is h k i fn vs os by lock e = ap (λ o. frame_by (unwrap_or o no_function) (activated k i fn vs os by lock)) e
+
+call_held-is : (files : List CFile) (c : CState) (fn : CFunction) (a : Activation) (ls : List Line) (fs : List Frame)
+    (x : Option Variable) (ks : List CValue) (vs : List Reading) (s : Standing) (g : CFunction) → function_there files s.file s.item ≡ Some g
+    → made (at files c fn a ls fs) (call_held c.lock c.places a x ks vs s g)
+    ≡ need (all_held c (frame_at fn a ls) (passed vs)) fault.Unheld
+    (Went (on (record c { loans = loans_after ks vs c.loans }) (frame_of s.file g (values_of vs) (passed vs) entered.FromC c.lock)
+    (record (frame_at fn a ls) { doing = doing.Waits x } ∷ fs)))
+call_held-is files c fn a ls fs x ks vs s g e =
+    passes (at files c fn a ls fs) ((all_held_in c.places a (passed vs), fault.Unheld) ∷ []) None
+    (effect.Call (activated s.file s.item g (values_of vs) (passed vs) entered.FromC c.lock) x (loans_in ks vs))
+    (Went (on (record c { loans = loans_after ks vs c.loans }) (frame_of s.file g (values_of vs) (passed vs) entered.FromC c.lock)
+    (record (frame_at fn a ls) { doing = doing.Waits x } ∷ fs)))
+    (ap (λ l. Went (on (record c { loans = l }) (frame_view files (activated s.file s.item g (values_of vs) (passed vs) entered.FromC c.lock))
+    (record (frame_at fn a ls) { doing = doing.Waits x } ∷ fs))) (loans-is ks vs c.loans)
+    ∙ ap (λ f. Went (on (record c { loans = loans_after ks vs c.loans }) f (record (frame_at fn a ls) { doing = doing.Waits x } ∷ fs)))
+    (entered-is (at files c fn a ls fs) s.file s.item g (values_of vs) (passed vs) entered.FromC c.lock e))
+    ∙ ap (λ b. need b fault.Unheld (Went (on (record c { loans = loans_after ks vs c.loans }) (frame_of s.file g (values_of vs) (passed vs) entered.FromC c.lock)
+    (record (frame_at fn a ls) { doing = doing.Waits x } ∷ fs)))) (held-is c fn a ls (passed vs))
+
+call_there-is : (files : List CFile) (c : CState) (fn : CFunction) (a : Activation) (ls : List Line) (fs : List Frame)
+    (x : Option Variable) (ks : List CValue) (vs : List Reading) (s : Standing) (o : Option CFunction) → function_there files s.file s.item ≡ o
+    → made (at files c fn a ls fs) (call_there c.lock c.places a x ks vs s o) ≡ call_found c (frame_at fn a ls) fs x ks vs (found_with s.file o)
+call_there-is files c fn a ls fs x ks vs s None e = refl
+call_there-is files c fn a ls fs x ks vs s (Some g) e =
+    passes (at files c fn a ls fs) ((fits (parameter_kinds g.head) vs, fault.Stuck) ∷ (receives a.variables x (result_kind g.head), fault.Stuck)
+    ∷ (all_set vs, fault.Undefined) ∷ (not (any_module_variable ks vs) || c.lock, fault.Unlocked) ∷ []) None
+    (call_held c.lock c.places a x ks vs s g)
+    (need (all_held c (frame_at fn a ls) (passed vs)) fault.Unheld
+    (Went (on (record c { loans = loans_after ks vs c.loans }) (frame_of s.file g (values_of vs) (passed vs) entered.FromC c.lock)
+    (record (frame_at fn a ls) { doing = doing.Waits x } ∷ fs))))
+    (call_held-is files c fn a ls fs x ks vs s g e)
+
+call-is : (files : List CFile) (c : CState) (fn : CFunction) (a : Activation) (ls : List Line) (fs : List Frame)
+    (x : Option Variable) (ks : List CValue) (vs : List Reading) (o : Option Standing)
+    → made (at files c fn a ls fs) (call_plan files c.lock c.places a x ks vs o) ≡ call_found c (frame_at fn a ls) fs x ks vs (found_at files o)
+call-is files c fn a ls fs x ks vs None = refl
+call-is files c fn a ls fs x ks vs (Some s) = call_there-is files c fn a ls fs x ks vs s (function_there files s.file s.item) refl
+
+-- `Py_INCREF(k);` and `Py_DECREF(k);`
+or_assoc : (a b c : Bool) → ((a || b) || c) ≡ (a || (b || c))
+or_assoc true b c = refl
+or_assoc false b c = refl
+
+or_comm : (a b : Bool) → (a || b) ≡ (b || a)
+or_comm true true = refl
+or_comm true false = refl
+or_comm false true = refl
+or_comm false false = refl
+
+or_false : (a : Bool) → (a || false) ≡ a
+or_false true = refl
+or_false false = refl
+
+has-append : (xs ys : List Obj) (o : Obj) → has (xs ++ ys) o ≡ (has xs o || has ys o)
+has-append [] ys o = refl
+has-append (x ∷ xs) ys o = ap (λ b. same_obj x o || b) (has-append xs ys o) ∙ sym (or_assoc (same_obj x o) (has xs o) (has ys o))
+
+has-reverse : (xs : List Obj) (o : Obj) → has (reverse xs) o ≡ has xs o
+has-reverse [] o = refl
+has-reverse (x ∷ xs) o =
+    ap (λ l. has l o) (reverse-append (x ∷ []) xs)
+    ∙ (has-append (reverse xs) (x ∷ []) o
+    ∙ (ap (λ b. b || (same_obj x o || false)) (has-reverse xs o)
+    ∙ (or_comm (has xs o) (same_obj x o || false)
+    ∙ ap (λ b. b || has xs o) (or_false (same_obj x o)))))
+
+gain_of-is : (files : List CFile) (c : CState) (fn : CFunction) (a : Activation) (ls : List Line) (fs : List Frame) (loans : List Obj)
+    (k : CValue) (v : Reading) (w : Value) → c.loans ≡ reverse loans
+    → made (at files c fn a ls fs) (gain_of c.places loans a k v w) ≡ owned_more (lend (lends k v) c) (frame_at fn a ls) fs w
+gain_of-is files c fn a ls fs loans k v (value.Object o) e =
+    passes (at files c fn a ls fs) ((held_in c.places a o || (has (lends k v) o || has loans o), fault.Unheld) ∷ []) None
+    (effect.Gain (o ∷ a.own) (lends k v)) (Went (on (lend (lends k v) c) (record (frame_at fn a ls) { own = o ∷ a.own }) fs))
+    (ap (λ d. Went (on d (record (frame_at fn a ls) { own = o ∷ a.own }) fs)) (lent k v c))
+    ∙ ap (λ b. need b fault.Unheld (Went (on (lend (lends k v) c) (record (frame_at fn a ls) { own = o ∷ a.own }) fs)))
+    (ap (λ b. held_in c.places a o || b) (ap (λ b. has (lends k v) o || b) (sym (ap (λ l. has l o) e ∙ has-reverse loans o)) ∙ sym (has-append (lends k v) c.loans o)))
+gain_of-is files c fn a ls fs loans k v value.Unset e = refl
+gain_of-is files c fn a ls fs loans k v value.Null e = refl
+gain_of-is files c fn a ls fs loans k v (value.Number z) e = refl
+gain_of-is files c fn a ls fs loans k v (value.Arguments os) e = refl
+gain_of-is files c fn a ls fs loans k v (value.Text t) e = refl
+gain_of-is files c fn a ls fs loans k v (value.Definition n) e = refl
+
+abbrev counted_tests : CState → Reading → Tests
+counted_tests c v = (converts v.kind kind.PyObject, fault.Stuck) ∷ (not (is_null v.value), fault.Stuck) ∷ (is_set v.value, fault.Undefined) ∷ (c.lock, fault.Unlocked) ∷ []
+
+gain-is : (files : List CFile) (c : CState) (fn : CFunction) (a : Activation) (ls : List Line) (fs : List Frame) (loans : List Obj)
+    (k : CValue) (v : Reading) → c.loans ≡ reverse loans
+    → made (at files c fn a ls fs) (gain_plan c.lock c.places loans a k v) ≡ incref c (frame_at fn a ls) fs k v
+gain-is files c fn a ls fs loans k v e =
+    passes (at files c fn a ls fs) (counted_tests c v) None (gain_of c.places loans a k v v.value)
+    (owned_more (lend (lends k v) c) (frame_at fn a ls) fs v.value) (gain_of-is files c fn a ls fs loans k v v.value e)
+
+loss_of-is : (h : Here) (w : Value) → made h (loss_of h.frame.own w) ≡ owned_less h.state h.frame h.below w
+loss_of-is h (value.Object o) =
+    passes h ((has h.frame.own o, fault.Unheld) ∷ []) None (effect.Lose (lose h.frame.own o))
+    (Went (on (record h.state { loans = [] }) (record h.frame { own = lose h.frame.own o }) h.below)) refl
+loss_of-is h value.Unset = refl
+loss_of-is h value.Null = refl
+loss_of-is h (value.Number z) = refl
+loss_of-is h (value.Arguments os) = refl
+loss_of-is h (value.Text t) = refl
+loss_of-is h (value.Definition n) = refl
+
+loss-is : (h : Here) (v : Reading) → made h (loss_plan h.state.lock h.frame.own v) ≡ decref h.state h.frame h.below v
+loss-is h v =
+    passes h (counted_tests h.state v) None (loss_of h.frame.own v.value) (owned_less h.state h.frame h.below v.value) (loss_of-is h v.value)
+
+-- `if (k == k) goto L;`
+both_lent : (a : CValue) (v : Reading) (b : CValue) (w : Reading) (c : CState)
+    → lend_all (lends a v ++ lends b w) c ≡ lend (lends b w) (lend (lends a v) c)
+both_lent a v b w c =
+    ap (λ l. lend l c) (reverse-append (lends a v) (lends b w) ∙ (ap (λ l. l ++ reverse (lends a v)) (reverse-lends b w) ∙ ap (λ l. lends b w ++ l) (reverse-lends a v)))
+    ∙ ap (λ l. record c { loans = l }) (append_assoc (lends b w) (lends a v) c.loans)
+
+branch_taken : (h : Here) (c : CState) (b : Bool) (i : ℕ)
+    → Went (on c (jumped h.frame (taken_line b i)) h.below) ≡ branch c h.frame h.below (drop i h.frame.function.lines) b
+branch_taken h c true i = refl
+branch_taken h c false i = refl
+
+branch-is : (h : Here) (a : CValue) (v : Reading) (r : Comparison) (b : CValue) (w : Reading) (o : Option ℕ)
+    → made h (branch_plan h.state.lock a v r b w o)
+    ≡ need_some (option_map (λ i. drop i h.frame.function.lines) o) fault.Stuck (goto_if h.state h.frame h.below a v r b w)
+branch-is h a v r b w None = refl
+branch-is h a v r b w (Some i) =
+    passes h ((comparable v.kind w.kind, fault.Stuck) ∷ (is_set v.value && is_set w.value, fault.Undefined)
+    ∷ (may_read_with h.state.lock a v && may_read_with h.state.lock b w, fault.Unlocked) ∷ []) None
+    (effect.Jump (taken_line (by_comparison r (same_value v.value w.value)) i) (lends a v ++ lends b w))
+    (branch (lend (lends b w) (lend (lends a v) h.state)) h.frame h.below (drop i h.frame.function.lines) (by_comparison r (same_value v.value w.value)))
+    (ap (λ c. Went (on c (jumped h.frame (taken_line (by_comparison r (same_value v.value w.value)) i)) h.below)) (both_lent a v b w h.state)
+    ∙ branch_taken h (lend (lends b w) (lend (lends a v) h.state)) (by_comparison r (same_value v.value w.value)) i)
+
+jump-is : (h : Here) (o : Option ℕ)
+    → made h (jump_plan o) ≡ need_some (option_map (λ i. drop i h.frame.function.lines) o) fault.Stuck (λ ls. Went (on h.state (record h.frame { code = ls }) h.below))
+jump-is h None = refl
+jump-is h (Some i) = refl
+
+-- `return k;`
+hand_by-is : (h : Here) (c : CState) (g : Frame) (gs : List Frame) (v : Value) (refs l : List Obj) (d : Doing) → h.below ≡ g ∷ gs → g.doing ≡ d → lend_all l h.state ≡ c
+    → made h (hand_by d g.own v refs l) ≡ to_waiting c g gs v refs d
+hand_by-is h c g gs v refs l doing.Runs e q p = refl
+hand_by-is h c g gs v refs l (doing.Asks o r x) e q p = refl
+hand_by-is h c g gs v refs l (doing.Waits x) e q p =
+    ap (λ fs. handed (lend_all l h.state) fs x v (refs ++ g.own)) e
+    ∙ ap (λ d. Went (on d (record g { doing = doing.Runs; own = refs ++ g.own; variables = put_to g.variables x v }) gs)) p
