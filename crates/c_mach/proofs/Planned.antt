@@ -29,12 +29,14 @@ use Rattle.c_state.specs.declared.state.Cell.{Cell}
 use Rattle.c_state.specs.declared.state.Spot.{Spot}
 use Rattle.c_state.specs.declared.state.Entered.{Entered}
 use Rattle.c_state.specs.declared.state.Entered.TheVariants as entered
+use Rattle.c_state.specs.declared.space.Event.TheVariants as event
+use Rattle.c_state.specs.declared.state.Course.TheVariants as course
 use Rattle.c_state.specs.declared.state.Doing.{Doing}
 use Rattle.c_state.specs.declared.state.Doing.TheVariants as doing
 use Rattle.c_state.specs.Objects.{same_obj}
 use Rattle.c_state.specs.State.{put_to, converts, lookup, spot, spots_at, has, lose, held, all_held, put, converted, Frame, CState}
 use Rattle.c_state.specs.Reads.{is_null, frame_of, parameter_kinds, any_module_variable, is_set, any_null, all_set, fits, read, read_each, one_more_reading, reads_module_variable, lends, loans_after, object_in, passed, receives, result_kind, items_at, Found, FoundFunction, NotFound, after_label, values_of}
-use Rattle.c_state.specs.Statements.{asking, store, may_store, error_fault, Moved, Went, Faulted, need, need_some, on, off, lend, assign, assign_variable, assign_place, store_value, row_result, ask, api, call_found, call, owned_more, owned_less, counted, incref, decref, branch, goto_if, to_caller, to_waiting, hand_object, hand_null, return_value, return_it, act, op_of, moved_out, comparable, same_value, by_comparison, takes}
+use Rattle.c_state.specs.Statements.{tell, owns_none, owns_just, same_lock, asking, store, may_store, error_fault, Moved, Went, Faulted, need, need_some, on, off, lend, assign, assign_variable, assign_place, store_value, row_result, ask, api, call_found, call, owned_more, owned_less, counted, incref, decref, branch, goto_if, to_caller, to_waiting, hand_object, hand_null, return_value, return_it, act, op_of, moved_out, comparable, same_value, by_comparison, takes}
 use Rattle.c_mach.specs.declared.parts.Standing.{Standing}
 use Rattle.c_mach.specs.declared.parts.Activation.{Activation}
 use Rattle.c_mach.specs.declared.parts.Effect.{Effect}
@@ -351,3 +353,138 @@ hand_by-is h c g gs v refs l (doing.Asks o r x) e q p = refl
 hand_by-is h c g gs v refs l (doing.Waits x) e q p =
     ap (λ fs. handed (lend_all l h.state) fs x v (refs ++ g.own)) e
     ∙ ap (λ d. Went (on d (record g { doing = doing.Runs; own = refs ++ g.own; variables = put_to g.variables x v }) gs)) p
+
+-- the frame below is that of the caller
+abbrev pub IsBelow : List CFile → Option Activation → List Frame → Type 0
+IsBelow files None fs = fs ≡ []
+IsBelow files (Some g) fs = (gs : List Frame) × (fs ≡ frame_view files g ∷ gs)
+
+hand-is : (h : Here) (c : CState) (caller : Option Activation) (v : Value) (refs l : List Obj) → IsBelow h.files caller h.below → lend_all l h.state ≡ c
+    → made h (hand_plan caller v refs l) ≡ to_caller c h.below v refs
+hand-is h c None v refs l e p = sym (ap (λ fs. to_caller c fs v refs) e)
+hand-is h c (Some g) v refs l e p =
+    hand_by-is h c (frame_view h.files g) e.0 v refs l g.doing e.1 refl p ∙ sym (ap (λ fs. to_caller c fs v refs) e.1)
+
+object-is : (h : Here) (c : CState) (caller : Option Activation) (by : Entered) (o : Obj) (l : List Obj) → IsBelow h.files caller h.below → lend_all l h.state ≡ c
+    → made h (object_plan caller by o l) ≡ hand_object c by h.below o
+object-is h c caller entered.FromC o l e p = hand-is h c caller (value.Object o) (o ∷ []) l e p
+object-is h c caller entered.FromOutside o l e p = ap (λ d. Went (tell (event.Leave o) (off d h.below))) p
+object-is h c caller entered.ForInitialisation o l e p = ap (λ d. Went (tell (event.Leave o) (off d h.below))) p
+
+null-is : (h : Here) (c : CState) (caller : Option Activation) (by : Entered) (o : Obj) (l : List Obj) → IsBelow h.files caller h.below → lend_all l h.state ≡ c
+    → made h (null_plan caller by o l) ≡ hand_null c by h.below o
+null-is h c caller entered.FromC o l e p = hand-is h c caller value.Null [] l e p
+null-is h c caller entered.FromOutside o l e p =
+    ap (λ d. Went (tell (event.LeaveRaise o) (off (record d { error = None }) h.below))) p
+null-is h c caller entered.ForInitialisation o l e p =
+    ap (λ d. Went (tell (event.LeaveRaise o) (off (record d { error = None; course = course.Failed }) h.below))) p
+
+null_with-is : (h : Here) (c : CState) (caller : Option Activation) (a : Activation) (o : Option Obj) (l : List Obj) → IsBelow h.files caller h.below → lend_all l h.state ≡ c
+    → made h (null_with caller a o l) ≡ need_some o fault.ErrorLost (λ e. need (owns_none a.own) fault.Unbalanced (hand_null c a.entered h.below e))
+null_with-is h c caller a None l e p = refl
+null_with-is h c caller a (Some x) l e p =
+    passes h ((owns_none a.own, fault.Unbalanced) ∷ []) None (null_plan caller a.entered x l) (hand_null c a.entered h.below x)
+    (null-is h c caller a.entered x l e p)
+
+number-is : (h : Here) (c : CState) (caller : Option Activation) (a : Activation) (v : Value) (l : List Obj) → IsBelow h.files caller h.below → lend_all l h.state ≡ c
+    → made h (after (checked (owns_none a.own) fault.Unbalanced None) (hand_plan caller v [] l)) ≡ need (owns_none a.own) fault.Unbalanced (to_caller c h.below v [])
+number-is h c caller a v l e p =
+    passes h ((owns_none a.own, fault.Unbalanced) ∷ []) None (hand_plan caller v [] l) (to_caller c h.below v []) (hand-is h c caller v [] l e p)
+
+result-is : (h : Here) (c : CState) (caller : Option Activation) (fn : CFunction) (a : Activation) (ls : List Line) (v : Value) (l : List Obj)
+    → IsBelow h.files caller h.below → lend_all l h.state ≡ c
+    → made h (result_plan c.error caller a (result_kind fn.head) v l) ≡ return_value c (frame_at fn a ls) h.below v
+result-is h c caller fn a ls (value.Object o) l e p =
+    passes h ((is_none c.error, fault.ErrorSet) ∷ (owns_just a.own o, fault.Unbalanced) ∷ []) None (object_plan caller a.entered o l)
+    (hand_object c a.entered h.below o) (object-is h c caller a.entered o l e p)
+result-is h c caller fn a ls value.Null l e p = null_with-is h c caller a c.error l e p
+result-is h c caller fn a ls value.Unset l e p = number-is h c caller a (converted (result_kind fn.head) value.Unset) l e p
+result-is h c caller fn a ls (value.Number z) l e p = number-is h c caller a (converted (result_kind fn.head) (value.Number z)) l e p
+result-is h c caller fn a ls (value.Arguments os) l e p = number-is h c caller a (converted (result_kind fn.head) (value.Arguments os)) l e p
+result-is h c caller fn a ls (value.Text t) l e p = number-is h c caller a (converted (result_kind fn.head) (value.Text t)) l e p
+result-is h c caller fn a ls (value.Definition n) l e p = number-is h c caller a (converted (result_kind fn.head) (value.Definition n)) l e p
+
+return-is : (h : Here) (caller : Option Activation) (fn : CFunction) (a : Activation) (ls : List Line) (k : CValue) (v : Reading)
+    → IsBelow h.files caller h.below
+    → made h (return_plan h.state.lock h.state.error caller a (result_kind fn.head) k v) ≡ return_it h.state (frame_at fn a ls) h.below k v
+return-is h caller fn a ls k v e =
+    passes h ((converts v.kind (result_kind fn.head), fault.Stuck) ∷ (is_set v.value, fault.Undefined)
+    ∷ (may_read_with h.state.lock k v && same_lock h.state.lock a.lock, fault.Unlocked) ∷ []) None
+    (result_plan h.state.error caller a (result_kind fn.head) v.value (lends k v))
+    (return_value (lend (lends k v) h.state) (frame_at fn a ls) h.below v.value)
+    (result-is h (lend (lends k v) h.state) caller fn a ls v.value (lends k v) e (lent k v h.state))
+
+-- every statement
+
+abbrev pub scene_from : List CFile → CState → List Obj → Activation → Option Activation → Scene
+scene_from files c loans a caller = record {
+  files = files;
+  places = c.places;
+  lock = c.lock;
+  error = c.error;
+  loans = loans;
+  here = a;
+  caller = caller;
+}
+
+-- an operand, and what follows it
+read_one : (files : List CFile) (c : CState) (fn : CFunction) (a : Activation) (ls : List Line) (fs : List Frame) (k : CValue) (e : Reading → Effect) (m : Reading → Moved)
+    → ((v : Reading) → made (at files c fn a ls fs) (e v) ≡ m v)
+    → made (at files c fn a ls fs) (read_then (operand_in (items_at files a.file) (spots_at c.places a.file) a.variables k) e)
+    ≡ need_some (read files c (frame_at fn a ls) k) fault.Stuck m
+read_one files c fn a ls fs k e m p =
+    chosen (at files c fn a ls fs) (operand_in (items_at files a.file) (spots_at c.places a.file) a.variables k) e m p
+    ∙ sym (ap (λ o. need_some o fault.Stuck m) (read-is files c (frame_at fn a ls) k))
+
+read_list : (files : List CFile) (c : CState) (fn : CFunction) (a : Activation) (ls : List Line) (fs : List Frame) (ks : List CValue) (e : List Reading → Effect) (m : List Reading → Moved)
+    → ((vs : List Reading) → made (at files c fn a ls fs) (e vs) ≡ m vs)
+    → made (at files c fn a ls fs) (read_then (operands_in (items_at files a.file) (spots_at c.places a.file) a.variables ks) e)
+    ≡ need_some (read_each files c (frame_at fn a ls) ks) fault.Stuck m
+read_list files c fn a ls fs ks e m p =
+    chosen (at files c fn a ls fs) (operands_in (items_at files a.file) (spots_at c.places a.file) a.variables ks) e m p
+    ∙ sym (ap (λ o. need_some o fault.Stuck m) (read_each-is files c (frame_at fn a ls) ks))
+
+assign-is : (h : Here) (fn : CFunction) (a : Activation) (ls : List Line) (files : List CFile) (c : CState) (fs : List Frame) (loans : List Obj) (caller : Option Activation) (t : Target) (k : CValue) (v : Reading)
+    → made (at files c fn a ls fs) (assign_plan (scene_from files c loans a caller) t k v) ≡ assign c (frame_at fn a ls) fs t k v
+assign-is h fn a ls files c fs loans caller (target.Variable x) k v = write-is (at files c fn a ls fs) x k v (lookup a.variables x)
+assign-is h fn a ls files c fs loans caller (target.Place p) k v = store-is (at files c fn a ls fs) p k v (spot (spots_at c.places a.file) p)
+
+abbrev function_of_scene : List CFile → Activation → CFunction
+function_of_scene files a = unwrap_or (function_there files a.file a.item) no_function
+
+-- what is planned for a statement is what it does
+pub planned : (files : List CFile) (c : CState) (loans : List Obj) (a : Activation) (ls : List Line) (caller : Option Activation) (fs : List Frame) (s : CStmt)
+    → c.loans ≡ reverse loans → IsBelow files caller fs
+    → effected files c (frame_at (function_of_scene files a) a ls) fs (plan (scene_from files c loans a caller) s)
+    ≡ act files c (frame_at (function_of_scene files a) a ls) fs s
+planned files c loans a ls caller fs (stmt.Assign t k) e b =
+    read_one files c (function_of_scene files a) a ls fs k (assign_plan (scene_from files c loans a caller) t k) (assign c (frame_at (function_of_scene files a) a ls) fs t k)
+    (assign-is (at files c (function_of_scene files a) a ls fs) (function_of_scene files a) a ls files c fs loans caller t k)
+planned files c loans a ls caller fs (stmt.Api x r ks) e b =
+    read_list files c (function_of_scene files a) a ls fs ks (row_plan c.lock c.error c.places a x r) (api c (frame_at (function_of_scene files a) a ls) fs x r)
+    (λ vs. row-is (at files c (function_of_scene files a) a ls fs) (function_of_scene files a) a ls x r vs refl)
+planned files c loans a ls caller fs (stmt.Call x name ks) e b =
+    read_list files c (function_of_scene files a) a ls fs ks (λ vs. call_plan files c.lock c.places a x ks vs (standing_named files a.file name)) (call files c (frame_at (function_of_scene files a) a ls) fs x name ks)
+    (λ vs. call-is files c (function_of_scene files a) a ls fs x ks vs (standing_named files a.file name)
+    ∙ sym (ap (call_found c (frame_at (function_of_scene files a) a ls) fs x ks vs) (named-is files a.file name)))
+planned files c loans a ls caller fs (stmt.Incref k) e b =
+    read_one files c (function_of_scene files a) a ls fs k (gain_plan c.lock c.places loans a k) (incref c (frame_at (function_of_scene files a) a ls) fs k)
+    (λ v. gain-is files c (function_of_scene files a) a ls fs loans k v e)
+planned files c loans a ls caller fs (stmt.Decref k) e b =
+    read_one files c (function_of_scene files a) a ls fs k (loss_plan c.lock a.own) (decref c (frame_at (function_of_scene files a) a ls) fs)
+    (loss-is (at files c (function_of_scene files a) a ls fs))
+planned files c loans a ls caller fs (stmt.GotoIf x r y l) e b =
+    read_one files c (function_of_scene files a) a ls fs x
+    (λ v. read_then (operand_in (items_at files a.file) (spots_at c.places a.file) a.variables y) (λ w. branch_plan c.lock x v r y w (label_line (function_of_scene files a).lines l)))
+    (λ v. need_some (read files c (frame_at (function_of_scene files a) a ls) y) fault.Stuck (λ w. need_some (after_label (function_of_scene files a).lines l) fault.Stuck (goto_if c (frame_at (function_of_scene files a) a ls) fs x v r y w)))
+    (λ v. read_one files c (function_of_scene files a) a ls fs y (λ w. branch_plan c.lock x v r y w (label_line (function_of_scene files a).lines l))
+    (λ w. need_some (after_label (function_of_scene files a).lines l) fault.Stuck (goto_if c (frame_at (function_of_scene files a) a ls) fs x v r y w))
+    (λ w. branch-is (at files c (function_of_scene files a) a ls fs) x v r y w (label_line (function_of_scene files a).lines l)
+    ∙ ap (λ o. need_some o fault.Stuck (goto_if c (frame_at (function_of_scene files a) a ls) fs x v r y w)) (label_line-is (function_of_scene files a).lines l)))
+planned files c loans a ls caller fs (stmt.Goto l) e b =
+    jump-is (at files c (function_of_scene files a) a ls fs) (label_line (function_of_scene files a).lines l)
+    ∙ ap (λ o. need_some o fault.Stuck (λ xs. Went (on c (record (frame_at (function_of_scene files a) a ls) { code = xs }) fs))) (label_line-is (function_of_scene files a).lines l)
+planned files c loans a ls caller fs (stmt.Return k) e b =
+    read_one files c (function_of_scene files a) a ls fs k (return_plan c.lock c.error caller a (result_kind (function_of_scene files a).head) k)
+    (return_it c (frame_at (function_of_scene files a) a ls) fs k)
+    (λ v. return-is (at files c (function_of_scene files a) a ls fs) caller (function_of_scene files a) a ls k v b)
