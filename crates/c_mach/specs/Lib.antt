@@ -1,5 +1,7 @@
 pub mod Effects
 pub mod Lookups
+pub mod Moves
 pub mod Plans
 pub mod Scenes
+pub mod Turns
 pub mod Views

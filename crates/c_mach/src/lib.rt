@@ -7,6 +7,7 @@ mod error;
 mod lookups;
 mod objects;
 mod operands;
+mod outside;
 mod parts;
 mod plans;
 mod readings;
