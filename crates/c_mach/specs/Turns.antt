@@ -94,23 +94,29 @@ abbrev pub enter_or : Stage → Callee → List Obj → Turn → Option Standing
 enter_or s callee args other None = other
 enter_or s callee args other (Some at) = enter_else s callee args other at (function_there s.files at.file at.item)
 
--- the turn inside an operation
-abbrev pub ask_turn : Stage → Op → ApiRow → Option Variable → List Obj → List Entry → Turn
-ask_turn s o r x own [] = turn.Stop
-ask_turn s o r x own (entry.Enter callee args ∷ es) =
+-- the turn inside an operation, at an entry and where none is left
+abbrev pub entry_turn : Stage → Op → ApiRow → Option Variable → List Obj → Entry → Turn
+entry_turn s o r x own (entry.Enter callee args) =
     enter_or s callee (read_objs s.instances s.views args) (answer_turn r x own (answer o (entry.Enter callee args) s.instances s.views))
     (standing_entered s.files s.places callee)
-ask_turn s o r x own (e ∷ es) = answer_turn r x own (answer o e s.instances s.views)
+entry_turn s o r x own e = answer_turn r x own (answer o e s.instances s.views)
+
+abbrev pub ask_turn : Stage → Op → ApiRow → Option Variable → List Obj → List Entry → Turn
+ask_turn s o r x own [] = turn.Stop
+ask_turn s o r x own (e ∷ es) = entry_turn s o r x own e
 
 abbrev pub ask_go : Stage → Op → ApiRow → Option Variable → List Obj → List Entry → Go
 ask_go s o r x own es = go (ask_turn s o r x own (living es)) (rest_of (living es))
 
--- the turn at top level
+-- the turn at top level, at an entry and where none is left
+abbrev pub top_entry : Stage → Entry → Turn
+top_entry s (entry.Enter callee args) =
+    enter_or s callee (read_objs s.instances s.views args) turn.Nothing (standing_entered s.files s.places callee)
+top_entry s e = turn.Nothing
+
 abbrev pub top_turn : Stage → List Entry → Turn
 top_turn s [] = turn.End
-top_turn s (entry.Enter callee args ∷ es) =
-    enter_or s callee (read_objs s.instances s.views args) turn.Nothing (standing_entered s.files s.places callee)
-top_turn s (e ∷ es) = turn.Nothing
+top_turn s (e ∷ es) = top_entry s e
 
 abbrev pub top_go : Stage → List Entry → Go
 top_go s es = go (top_turn s (fitting s.files s.places es)) (rest_of (fitting s.files s.places es))
