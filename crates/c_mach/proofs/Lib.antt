@@ -2,3 +2,4 @@ pub mod Fits
 pub mod Pairs
 pub mod Planned
 pub mod Searches
+pub mod Settled
