@@ -1,5 +1,5 @@
 -- Settling is the skipping of entries that do nothing, and then one turn.
-use Rattle.std.proofs.Common.{◌≡◌, ℕ, zero, suc, ◌≤◌, Bool, true, false, List, [], ◌∷◌, Option, Some, None, refl, sym, ap, ◌∙◌, length, pos, unwrap_or, if◌then◌else◌, arith}
+use Rattle.std.proofs.Common.{◌≡◌, ℕ, zero, suc, ◌≤◌, Bool, true, false, List, [], ◌∷◌, Option, Some, None, refl, sym, ap, ◌∙◌, drop, length, pos, unwrap_or, if◌then◌else◌, arith}
 use Rattle.c_state.specs.declared.space.Obj.{Obj}
 use Rattle.c_state.specs.declared.space.Op.{Op}
 use Rattle.c_state.specs.declared.space.Answer.{Answer}
@@ -21,11 +21,11 @@ use Rattle.c_state.specs.declared.state.Course.{Course}
 use Rattle.c_state.specs.declared.state.Course.TheVariants as course
 use Rattle.c_state.specs.Objects.{NewResult, Gave, Raises, new_result, sure_result, answer, read_objs}
 use Rattle.c_state.specs.World.{read_in, answer_in}
-use Rattle.c_state.specs.State.{Frame, CState}
-use Rattle.c_state.specs.Reads.{Found, FoundFunction, NotFound, frame_of, entered_by, initializer_from}
-use Rattle.c_state.specs.Statements.{Moved, Went, on, off, tell, script_to}
+use Rattle.c_state.specs.State.{put, put_to, Frame, CState}
+use Rattle.c_state.specs.Reads.{Found, FoundFunction, NotFound, frame_of, entered_by, initializer_from, initializer_name}
+use Rattle.c_state.specs.Statements.{store, asking, Moved, Went, on, off, tell, script_to}
 use Rattle.c_state.specs.Outside.{How, NewReference, Borrowed, SetsError, how, deliver_new, deliver_by, deliver, answered, called, await, enter, top_called, top, begin, idle}
-use Rattle.c_state.specs.Machine.{move, outside, went_or, settle_for, settle}
+use Rattle.c_state.specs.Machine.{move, is_asking, none_runs, outside_by, outside, went_or, settle_for, settle}
 use Rattle.c_mach.specs.declared.parts.Standing.{Standing}
 use Rattle.c_mach.specs.declared.parts.Delivery.{Delivery}
 use Rattle.c_mach.specs.declared.parts.Delivery.TheVariants as delivery
@@ -33,8 +33,12 @@ use Rattle.c_mach.specs.declared.parts.Turn.{Turn}
 use Rattle.c_mach.specs.declared.parts.Turn.TheVariants as turn
 use Rattle.c_mach.specs.Views.{function_there, found_with, found_at, frame_by, frame_view, no_function, activated}
 use Rattle.c_mach.specs.Lookups.{standing_entered, standing_next}
-use Rattle.c_mach.specs.Turns.{Stage, living, is_found, fitting, rest_of, delivery_new, delivery_by, answer_turn, enter_turn, enter_else, enter_or, entry_turn, ask_turn, top_entry, top_turn, begin_there, begin_at, idle_go}
-use Rattle.c_mach.specs.Effects.{delivered, delivered_to, turned}
+use Rattle.c_mach.specs.Turns.{Stage, living, is_found, fitting, rest_of, delivery_new, delivery_by, answer_turn, enter_turn, enter_else, enter_or, entry_turn, ask_turn, top_entry, top_turn, begin_there, begin_at, idle_go, Go, go, ask_go, doing_go, newest_go, failed_go, effect_go}
+use Rattle.c_mach.specs.Effects.{delivered, delivered_to, turned, course_after, lend_all, handed, effected}
+use Rattle.c_mach.specs.declared.parts.Activation.{Activation}
+use Rattle.c_mach.specs.declared.parts.Effect.{Effect}
+use Rattle.c_mach.specs.declared.parts.Effect.TheVariants as effect
+use Rattle.c_mach.proofs.Planned.{IsBelow}
 use Rattle.c_mach.proofs.Searches.{entered-is, next-is}
 
 abbrev pub stage_from : List CFile → CState → Stage
@@ -277,3 +281,134 @@ top-settle files zero c (entry.Die y ∷ es) h e = absurd (omega (arith, h))
 top-settle files (suc n) c (entry.Die y ∷ es) h e =
     skip files (suc n) c es (script_to (entry.Die y ∷ es) (idles c)) (turned files (rest_of (fitting files c.places es)) (idles c) (top_turn (stage_from files c) (fitting files c.places es)))
     (top_move files (suc n) c (entry.Die y ∷ es) e) (top-settle files n c es (omega (arith, h)) e)
+
+-- an initialisation that begins
+begin_there-settle : (files : List CFile) (n : ℕ) (c : CState) (es : List Entry) (at : Standing) (q : Option CFunction) → length es ≤ n
+    → function_there files at.file at.item ≡ q → initializer_from c.begun files ≡ found_with at.file q
+    → settle_for files (suc n) (script_to es (idles c))
+    ≡ turned files (begin_there (stage_from files c) es at q).rest (script_to es (idles c)) (begin_there (stage_from files c) es at q).turn
+begin_there-settle files n c es at None h e w = top-settle files n (script_to es c) es h w
+begin_there-settle files n c es at (Some fn) h e w =
+    once files n (script_to es (idles c)) (begin files (script_to es (idles c)) (FoundFunction at.file fn))
+    (turned files es (script_to es (idles c)) (begin_there (stage_from files c) es at (Some fn)).turn)
+    (ap (λ q. settle_for files n (begin files (script_to es (idles c)) q)) w)
+    (ap (λ f. tell (event.Init (initializer_name fn.head)) (on (record (script_to es (idles c)) { begun = suc at.file }) f []))
+    (sym (view-activated files at.file at.item fn [] [] entered.ForInitialisation c.lock e)))
+    refl
+
+begin_at-settle : (files : List CFile) (n : ℕ) (c : CState) (es : List Entry) (q : Option Standing) → length es ≤ n
+    → initializer_from c.begun files ≡ found_at files q
+    → settle_for files (suc n) (script_to es (idles c))
+    ≡ turned files (begin_at (stage_from files c) es q).rest (script_to es (idles c)) (begin_at (stage_from files c) es q).turn
+begin_at-settle files n c es None h w = top-settle files n (script_to es c) es h w
+begin_at-settle files n c es (Some at) h w = begin_there-settle files n c es at (function_there files at.file at.item) h refl w
+
+-- settling, from the parts of any state
+
+abbrev pub Settles : List CFile → CState → Go → Type 0
+Settles files d g = settle files d ≡ turned files g.rest d g.turn
+
+pub idle-settled : (files : List CFile) (d : CState) → d.frames ≡ [] → d.course ≡ course.Goes → Settles files d (idle_go (stage_from files d) d.world.script)
+idle-settled files d e k =
+    let s : d ≡ idles d = ap (λ fs. record d { frames = fs }) e ∙ ap (λ q. record d { frames = []; course = q }) k in
+    let g = idle_go (stage_from files d) d.world.script in
+    ap (settle files) s
+    ∙ (begin_at-settle files (suc (length d.world.script)) d d.world.script (standing_next files d.begun) (omega arith) (next-is files d.begun)
+    ∙ ap (λ x. turned files g.rest x g.turn) (sym s))
+
+pub asks-settled : (files : List CFile) (d : CState) (f : Frame) (fs : List Frame) (o : Op) (r : ApiRow) (x : Option Variable)
+    → d.frames ≡ f ∷ fs → f.doing ≡ doing.Asks o r x → d.course ≡ course.Goes → Settles files d (ask_go (stage_from files d) o r x f.own d.world.script)
+asks-settled files d f fs o r x e q k =
+    let s : d ≡ asks d f fs o r x =
+    ap (λ fs. record d { frames = fs }) e ∙ (ap (λ y. record d { frames = record f { doing = y } ∷ fs }) q ∙ ap (λ y. record d { frames = record f { doing = doing.Asks o r x } ∷ fs; course = y }) k) in
+    let g = ask_go (stage_from files d) o r x f.own d.world.script in
+    ap (settle files) s
+    ∙ (asks-settle files (suc (length d.world.script)) d f fs o r x d.world.script (omega arith)
+    ∙ ap (λ y. turned files g.rest y g.turn) (sym s))
+
+pub calm-settled : (files : List CFile) (d : CState) (es : List Entry) → outside d ≡ false → Settles files d (go turn.Nothing es)
+calm-settled files d es o = calm files (suc (suc (length d.world.script))) d o
+
+pub failed-settled : (files : List CFile) (d : CState) → d.course ≡ course.Failed → Settles files d (go turn.End d.world.script)
+failed-settled files d k =
+    let s : d ≡ record d { course = course.Failed } = ap (λ q. record d { course = q }) k in
+    ap (settle files) s
+    ∙ once files (suc (length d.world.script)) (record d { course = course.Failed }) (turned files d.world.script d turn.End) (turned files d.world.script d turn.End) refl refl refl
+
+-- over the newest frame
+runs-calm : (d : CState) (f : Frame) (fs : List Frame) → d.frames ≡ f ∷ fs → d.course ≡ course.Goes → is_asking f.doing ≡ false → outside d ≡ false
+runs-calm d f fs e k q = ap (outside_by d) k ∙ (ap none_runs e ∙ q)
+
+doing-settled : (files : List CFile) (d : CState) (f : Frame) (fs : List Frame) (q : Doing) → d.frames ≡ f ∷ fs → f.doing ≡ q → d.course ≡ course.Goes
+    → Settles files d (doing_go (stage_from files d) f.own d.world.script q)
+doing-settled files d f fs (doing.Asks o r x) e q k = asks-settled files d f fs o r x e q k
+doing-settled files d f fs doing.Runs e q k = calm-settled files d d.world.script (runs-calm d f fs e k (ap is_asking q))
+doing-settled files d f fs (doing.Waits x) e q k = calm-settled files d d.world.script (runs-calm d f fs e k (ap is_asking q))
+
+pub newest-settled : (files : List CFile) (d : CState) (caller : Option Activation) → IsBelow files caller d.frames → d.course ≡ course.Goes
+    → Settles files d (newest_go (stage_from files d) caller d.world.script)
+newest-settled files d None b k = idle-settled files d b k
+newest-settled files d (Some g) b k = doing-settled files d (frame_view files g) b.0 g.doing b.1 refl k
+
+-- after an effect
+went_is : (c d s : CState) (m : Moved) → m ≡ Went d → m ≡ Went s → s ≡ d
+went_is c d s m p q = ap (λ x. went_or x c) (sym q ∙ p)
+
+along : (files : List CFile) (d s : CState) (g : Go) → s ≡ d → Settles files s g → Settles files d g
+along files d s g e h = sym (ap (settle files) e) ∙ (h ∙ ap (λ x. turned files g.rest x g.turn) e)
+
+-- the frame goes on
+on-settled : (files : List CFile) (c d : CState) (f : Frame) (fs : List Frame) (es : List Entry) → d ≡ c → c.frames ≡ f ∷ fs → c.course ≡ course.Goes → f.doing ≡ doing.Runs → Settles files d (go turn.Nothing es)
+on-settled files c d f fs es s e k q =
+    along files d c (go turn.Nothing es) (sym s) (calm-settled files c es (runs-calm c f fs e k (ap is_asking q)))
+
+failed-or : (files : List CFile) (d : CState) (failed : Bool) (k : Course) (caller : Option Activation) → k ≡ course.Goes → d.course ≡ course_after failed k → IsBelow files caller d.frames
+    → Settles files d (failed_go failed (stage_from files d) caller d.world.script)
+failed-or files d true k caller g e b = failed-settled files d e
+failed-or files d false k caller g e b = newest-settled files d caller b (e ∙ g)
+
+hand-settled : (files : List CFile) (c d : CState) (fs : List Frame) (x : Option Variable) (v : Value) (own : List Obj) (es : List Entry) → c.course ≡ course.Goes
+    → handed c fs x v own ≡ Went d → Settles files d (go turn.Nothing es)
+hand-settled files c d [] x v own es k p = cc
+hand-settled files c d (g ∷ gs) x v own es k p =
+    let s = on c (record g { doing = doing.Runs; own = own; variables = put_to g.variables x v }) gs in
+    on-settled files s d (record g { doing = doing.Runs; own = own; variables = put_to g.variables x v }) gs es (sym (went_is c d s (Went s) p refl)) refl k refl
+
+pub effect-settled : (files : List CFile) (c d : CState) (f : Frame) (fs : List Frame) (caller : Option Activation) (e : Effect)
+    → c.course ≡ course.Goes → f.doing ≡ doing.Runs → IsBelow files caller fs → effected files c f fs e ≡ Went d
+    → Settles files d (effect_go (stage_from files c) f.own caller c.world.script e)
+effect-settled files c d f fs caller (effect.Fault j) k q b p = cc
+effect-settled files c d f fs caller (effect.Write x v l) k q b p =
+    let s = on (lend_all l c) (record f { variables = put f.variables x v }) fs in
+    on-settled files s d (record f { variables = put f.variables x v }) fs c.world.script (sym (went_is c d s (Went s) p refl)) refl k q
+effect-settled files c d f fs caller (effect.Store y v own l) k q b p =
+    let s = on (store (lend_all l c) f.file y v) (record f { own = own }) fs in
+    on-settled files s d (record f { own = own }) fs c.world.script (sym (went_is c d s (Went s) p refl)) refl k q
+effect-settled files c d f fs caller (effect.Ask o r x) k q b p =
+    let s = asking c f fs x r o in
+    along files d s (effect_go (stage_from files c) f.own caller c.world.script (effect.Ask o r x)) (went_is c d s (Went s) p refl)
+    (asks-settled files s (record f { doing = doing.Asks o r x }) fs o r x refl refl k)
+effect-settled files c d f fs caller (effect.Call a x l) k q b p =
+    let s = on (lend_all l c) (record (frame_view files a) { doing = doing.Runs }) (record f { doing = doing.Waits x } ∷ fs) in
+    on-settled files s d (record (frame_view files a) { doing = doing.Runs }) (record f { doing = doing.Waits x } ∷ fs) c.world.script (sym (went_is c d s (Went s) p refl)) refl k refl
+effect-settled files c d f fs caller (effect.Gain own l) k q b p =
+    let s = on (lend_all l c) (record f { own = own }) fs in
+    on-settled files s d (record f { own = own }) fs c.world.script (sym (went_is c d s (Went s) p refl)) refl k q
+effect-settled files c d f fs caller (effect.Lose own) k q b p =
+    let s = on (record c { loans = [] }) (record f { own = own }) fs in
+    on-settled files s d (record f { own = own }) fs c.world.script (sym (went_is c d s (Went s) p refl)) refl k q
+effect-settled files c d f fs caller (effect.Jump None l) k q b p =
+    let s = on (lend_all l c) f fs in
+    on-settled files s d f fs c.world.script (sym (went_is c d s (Went s) p refl)) refl k q
+effect-settled files c d f fs caller (effect.Jump (Some i) l) k q b p =
+    let s = on (lend_all l c) (record f { code = drop i f.function.lines }) fs in
+    on-settled files s d (record f { code = drop i f.function.lines }) fs c.world.script (sym (went_is c d s (Went s) p refl)) refl k q
+effect-settled files c d f fs caller (effect.Hand x v own l) k q b p = hand-settled files (lend_all l c) d fs x v own c.world.script k p
+effect-settled files c d f fs caller (effect.Leave o l) k q b p =
+    let s = tell (event.Leave o) (off (lend_all l c) fs) in
+    along files d s (effect_go (stage_from files c) f.own caller c.world.script (effect.Leave o l)) (went_is c d s (Went s) p refl)
+    (newest-settled files s caller b k)
+effect-settled files c d f fs caller (effect.LeaveRaise o failed l) k q b p =
+    let s = tell (event.LeaveRaise o) (off (record (lend_all l c) { error = None; course = course_after failed c.course }) fs) in
+    along files d s (effect_go (stage_from files c) f.own caller c.world.script (effect.LeaveRaise o failed l)) (went_is c d s (Went s) p refl)
+    (failed-or files s failed c.course caller k refl b)

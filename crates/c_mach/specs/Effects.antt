@@ -44,7 +44,7 @@ effected files c f fs (effect.Fault k) = Faulted k
 effected files c f fs (effect.Write x v l) = Went (on (lend_all l c) (record f { variables = put f.variables x v }) fs)
 effected files c f fs (effect.Store p v own l) = Went (on (store (lend_all l c) f.file p v) (record f { own = own }) fs)
 effected files c f fs (effect.Ask o r x) = Went (asking c f fs x r o)
-effected files c f fs (effect.Call a x l) = Went (on (lend_all l c) (frame_view files a) (record f { doing = doing.Waits x } ∷ fs))
+effected files c f fs (effect.Call a x l) = Went (on (lend_all l c) (record (frame_view files a) { doing = doing.Runs }) (record f { doing = doing.Waits x } ∷ fs))
 effected files c f fs (effect.Gain own l) = Went (on (lend_all l c) (record f { own = own }) fs)
 effected files c f fs (effect.Lose own) = Went (on (record c { loans = [] }) (record f { own = own }) fs)
 effected files c f fs (effect.Jump i l) = Went (on (lend_all l c) (jumped f i) fs)
