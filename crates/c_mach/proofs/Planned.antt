@@ -44,7 +44,7 @@ use Rattle.c_mach.specs.declared.parts.Effect.TheVariants as effect
 use Rattle.c_mach.specs.Views.{function_there, found_at, found_with, frame_by, frame_view, activated, no_function}
 use Rattle.c_mach.specs.Lookups.{label_line, standing_named}
 use Rattle.c_mach.specs.Plans.{checked, after, may_write_with, operand_in, operands_in, loans_in, may_read_with, held_in, all_held_in, write_plan, unowned, own_after_store, store_plan, row_accepts, row_plan, ask_plan, call_held, call_of, call_there, call_plan, gain_of, gain_plan, loss_of, loss_plan, taken_line, branch_plan, jump_plan, hand_by, hand_plan, object_plan, null_plan, null_with, result_plan, return_plan, read_then, Scene, function_here, spots_here, operand_here, operands_here, assign_plan, plan}
-use Rattle.c_mach.specs.Effects.{lend_all, jumped, handed, effected}
+use Rattle.c_mach.specs.Effects.{jumped, handed, effected}
 use Rattle.c_mach.proofs.Searches.{label_line-is, named-is}
 
 -- where an effect happens
@@ -117,9 +117,6 @@ reverse-lends k v = by_test (reads_module_variable k v) v.value
     by_test true (value.Text t) = refl
     by_test true (value.Definition n) = refl
 
-lent : (k : CValue) (v : Reading) (c : CState) → lend_all (lends k v) c ≡ lend (lends k v) c
-lent k v c = ap (λ l. lend l c) (reverse-lends k v)
-
 -- `x = k;`
 write-is : (h : Here) (x : Variable) (k : CValue) (v : Reading) (o : Option Cell)
     → made h (write_plan h.state.lock x k v o) ≡ need_some o fault.Stuck (assign_variable h.state h.frame h.below x k v)
@@ -128,7 +125,7 @@ write-is h x k v (Some cell) =
     passes h ((converts v.kind cell.kind, fault.Stuck) ∷ (is_set v.value, fault.Undefined) ∷ (may_read_with h.state.lock k v, fault.Unlocked) ∷ [])
     None (effect.Write x v.value (lends k v))
     (Went (on (lend (lends k v) h.state) (record h.frame { variables = put h.frame.variables x v.value }) h.below))
-    (ap (λ c. Went (on c (record h.frame { variables = put h.frame.variables x v.value }) h.below)) (lent k v h.state))
+    (refl)
 
 -- `p = k;`
 stored-is : (h : Here) (p : Place) (old v : Value) (k : CValue) (w : Reading)
@@ -137,13 +134,13 @@ stored-is : (h : Here) (p : Place) (old v : Value) (k : CValue) (w : Reading)
 stored-is h p old (value.Object o) k w =
     passes h ((has h.frame.own o, fault.Unheld) ∷ []) None (effect.Store p (value.Object o) (moved_out old (lose h.frame.own o)) (lends k w))
     (Went (on (store (lend (lends k w) h.state) h.frame.file p (value.Object o)) (record h.frame { own = moved_out old (lose h.frame.own o) }) h.below))
-    (ap (λ c. Went (on (store c h.frame.file p (value.Object o)) (record h.frame { own = moved_out old (lose h.frame.own o) }) h.below)) (lent k w h.state))
-stored-is h p old value.Unset k w = ap (λ c. Went (on (store c h.frame.file p value.Unset) (record h.frame { own = moved_out old h.frame.own }) h.below)) (lent k w h.state)
-stored-is h p old value.Null k w = ap (λ c. Went (on (store c h.frame.file p value.Null) (record h.frame { own = moved_out old h.frame.own }) h.below)) (lent k w h.state)
-stored-is h p old (value.Number z) k w = ap (λ c. Went (on (store c h.frame.file p (value.Number z)) (record h.frame { own = moved_out old h.frame.own }) h.below)) (lent k w h.state)
-stored-is h p old (value.Arguments os) k w = ap (λ c. Went (on (store c h.frame.file p (value.Arguments os)) (record h.frame { own = moved_out old h.frame.own }) h.below)) (lent k w h.state)
-stored-is h p old (value.Text t) k w = ap (λ c. Went (on (store c h.frame.file p (value.Text t)) (record h.frame { own = moved_out old h.frame.own }) h.below)) (lent k w h.state)
-stored-is h p old (value.Definition n) k w = ap (λ c. Went (on (store c h.frame.file p (value.Definition n)) (record h.frame { own = moved_out old h.frame.own }) h.below)) (lent k w h.state)
+    (refl)
+stored-is h p old value.Unset k w = refl
+stored-is h p old value.Null k w = refl
+stored-is h p old (value.Number z) k w = refl
+stored-is h p old (value.Arguments os) k w = refl
+stored-is h p old (value.Text t) k w = refl
+stored-is h p old (value.Definition n) k w = refl
 
 store-is : (h : Here) (p : Place) (k : CValue) (v : Reading) (o : Option Spot)
     → made h (store_plan h.state.lock h.frame.own p k v o) ≡ need_some o fault.Stuck (assign_place h.state h.frame h.below p k v)
@@ -178,7 +175,7 @@ ask-is : (h : Here) (fn : CFunction) (a : Activation) (ls : List Line) (x : Opti
 ask-is h fn a ls x r vs None e = refl
 ask-is h fn a ls x r vs (Some o) e =
     passes h ((h.state.lock, fault.Unlocked) ∷ (is_none h.state.error, error_fault r) ∷ (all_held_in h.state.places a (passed vs), fault.Unheld) ∷ [])
-    None (effect.Ask o r x) (Went (asking h.state h.frame h.below x r o)) refl
+    None (effect.Ask o r x (event.Ask o)) (Went (asking h.state h.frame h.below x r o)) refl
     ∙ ap (λ b. need h.state.lock fault.Unlocked (need (is_none h.state.error) (error_fault r) (need b fault.Unheld (Went (asking h.state h.frame h.below x r o)))))
     (held-is h.state fn a ls (passed vs) ∙ ap (λ f. all_held h.state f (passed vs)) (sym e))
 
@@ -218,7 +215,7 @@ call_held-is : (files : List CFile) (c : CState) (fn : CFunction) (a : Activatio
     (record (frame_at fn a ls) { doing = doing.Waits x } ∷ fs)))
 call_held-is files c fn a ls fs x ks vs s g e =
     passes (at files c fn a ls fs) ((all_held_in c.places a (passed vs), fault.Unheld) ∷ []) None
-    (effect.Call (activated s.file s.item g (values_of vs) (passed vs) entered.FromC c.lock) x (loans_in ks vs))
+    (effect.Call (activated s.file s.item g (values_of vs) (passed vs) entered.FromC c.lock) x (reverse (loans_in ks vs)))
     (Went (on (record c { loans = loans_after ks vs c.loans }) (frame_of s.file g (values_of vs) (passed vs) entered.FromC c.lock)
     (record (frame_at fn a ls) { doing = doing.Waits x } ∷ fs)))
     (ap (λ l. Went (on (record c { loans = l }) (record (frame_view files (activated s.file s.item g (values_of vs) (passed vs) entered.FromC c.lock)) { doing = doing.Runs })
@@ -281,7 +278,7 @@ gain_of-is : (files : List CFile) (c : CState) (fn : CFunction) (a : Activation)
 gain_of-is files c fn a ls fs loans k v (value.Object o) e =
     passes (at files c fn a ls fs) ((held_in c.places a o || (has (lends k v) o || has loans o), fault.Unheld) ∷ []) None
     (effect.Gain (o ∷ a.own) (lends k v)) (Went (on (lend (lends k v) c) (record (frame_at fn a ls) { own = o ∷ a.own }) fs))
-    (ap (λ d. Went (on d (record (frame_at fn a ls) { own = o ∷ a.own }) fs)) (lent k v c))
+    (refl)
     ∙ ap (λ b. need b fault.Unheld (Went (on (lend (lends k v) c) (record (frame_at fn a ls) { own = o ∷ a.own }) fs)))
     (ap (λ b. held_in c.places a o || b) (ap (λ b. has (lends k v) o || b) (sym (ap (λ l. has l o) e ∙ has-reverse loans o)) ∙ sym (has-append (lends k v) c.loans o)))
 gain_of-is files c fn a ls fs loans k v value.Unset e = refl
@@ -318,10 +315,8 @@ loss-is h v =
 
 -- `if (k == k) goto L;`
 both_lent : (a : CValue) (v : Reading) (b : CValue) (w : Reading) (c : CState)
-    → lend_all (lends a v ++ lends b w) c ≡ lend (lends b w) (lend (lends a v) c)
-both_lent a v b w c =
-    ap (λ l. lend l c) (reverse-append (lends a v) (lends b w) ∙ (ap (λ l. l ++ reverse (lends a v)) (reverse-lends b w) ∙ ap (λ l. lends b w ++ l) (reverse-lends a v)))
-    ∙ ap (λ l. record c { loans = l }) (append_assoc (lends b w) (lends a v) c.loans)
+    → lend (lends b w ++ lends a v) c ≡ lend (lends b w) (lend (lends a v) c)
+both_lent a v b w c = ap (λ l. record c { loans = l }) (append_assoc (lends b w) (lends a v) c.loans)
 
 branch_taken : (h : Here) (c : CState) (b : Bool) (i : ℕ)
     → Went (on c (jumped h.frame (taken_line b i)) h.below) ≡ branch c h.frame h.below (drop i h.frame.function.lines) b
@@ -335,7 +330,7 @@ branch-is h a v r b w None = refl
 branch-is h a v r b w (Some i) =
     passes h ((comparable v.kind w.kind, fault.Stuck) ∷ (is_set v.value && is_set w.value, fault.Undefined)
     ∷ (may_read_with h.state.lock a v && may_read_with h.state.lock b w, fault.Unlocked) ∷ []) None
-    (effect.Jump (taken_line (by_comparison r (same_value v.value w.value)) i) (lends a v ++ lends b w))
+    (effect.Jump (taken_line (by_comparison r (same_value v.value w.value)) i) (lends b w ++ lends a v))
     (branch (lend (lends b w) (lend (lends a v) h.state)) h.frame h.below (drop i h.frame.function.lines) (by_comparison r (same_value v.value w.value)))
     (ap (λ c. Went (on c (jumped h.frame (taken_line (by_comparison r (same_value v.value w.value)) i)) h.below)) (both_lent a v b w h.state)
     ∙ branch_taken h (lend (lends b w) (lend (lends a v) h.state)) (by_comparison r (same_value v.value w.value)) i)
@@ -346,12 +341,12 @@ jump-is h None = refl
 jump-is h (Some i) = refl
 
 -- `return k;`
-hand_by-is : (h : Here) (c : CState) (g : Frame) (gs : List Frame) (v : Value) (refs l : List Obj) (d : Doing) → h.below ≡ g ∷ gs → g.doing ≡ d → lend_all l h.state ≡ c
+hand_by-is : (h : Here) (c : CState) (g : Frame) (gs : List Frame) (v : Value) (refs l : List Obj) (d : Doing) → h.below ≡ g ∷ gs → g.doing ≡ d → lend l h.state ≡ c
     → made h (hand_by d g.own v refs l) ≡ to_waiting c g gs v refs d
 hand_by-is h c g gs v refs l doing.Runs e q p = refl
 hand_by-is h c g gs v refs l (doing.Asks o r x) e q p = refl
 hand_by-is h c g gs v refs l (doing.Waits x) e q p =
-    ap (λ fs. handed (lend_all l h.state) fs x v (refs ++ g.own)) e
+    ap (λ fs. handed (lend l h.state) fs x v (refs ++ g.own)) e
     ∙ ap (λ d. Went (on d (record g { doing = doing.Runs; own = refs ++ g.own; variables = put_to g.variables x v }) gs)) p
 
 -- the frame below is that of the caller
@@ -359,19 +354,19 @@ abbrev pub IsBelow : List CFile → Option Activation → List Frame → Type 0
 IsBelow files None fs = fs ≡ []
 IsBelow files (Some g) fs = (gs : List Frame) × (fs ≡ frame_view files g ∷ gs)
 
-hand-is : (h : Here) (c : CState) (caller : Option Activation) (v : Value) (refs l : List Obj) → IsBelow h.files caller h.below → lend_all l h.state ≡ c
+hand-is : (h : Here) (c : CState) (caller : Option Activation) (v : Value) (refs l : List Obj) → IsBelow h.files caller h.below → lend l h.state ≡ c
     → made h (hand_plan caller v refs l) ≡ to_caller c h.below v refs
 hand-is h c None v refs l e p = sym (ap (λ fs. to_caller c fs v refs) e)
 hand-is h c (Some g) v refs l e p =
     hand_by-is h c (frame_view h.files g) e.0 v refs l g.doing e.1 refl p ∙ sym (ap (λ fs. to_caller c fs v refs) e.1)
 
-object-is : (h : Here) (c : CState) (caller : Option Activation) (by : Entered) (o : Obj) (l : List Obj) → IsBelow h.files caller h.below → lend_all l h.state ≡ c
+object-is : (h : Here) (c : CState) (caller : Option Activation) (by : Entered) (o : Obj) (l : List Obj) → IsBelow h.files caller h.below → lend l h.state ≡ c
     → made h (object_plan caller by o l) ≡ hand_object c by h.below o
 object-is h c caller entered.FromC o l e p = hand-is h c caller (value.Object o) (o ∷ []) l e p
 object-is h c caller entered.FromOutside o l e p = ap (λ d. Went (tell (event.Leave o) (off d h.below))) p
 object-is h c caller entered.ForInitialisation o l e p = ap (λ d. Went (tell (event.Leave o) (off d h.below))) p
 
-null-is : (h : Here) (c : CState) (caller : Option Activation) (by : Entered) (o : Obj) (l : List Obj) → IsBelow h.files caller h.below → lend_all l h.state ≡ c
+null-is : (h : Here) (c : CState) (caller : Option Activation) (by : Entered) (o : Obj) (l : List Obj) → IsBelow h.files caller h.below → lend l h.state ≡ c
     → made h (null_plan caller by o l) ≡ hand_null c by h.below o
 null-is h c caller entered.FromC o l e p = hand-is h c caller value.Null [] l e p
 null-is h c caller entered.FromOutside o l e p =
@@ -379,20 +374,20 @@ null-is h c caller entered.FromOutside o l e p =
 null-is h c caller entered.ForInitialisation o l e p =
     ap (λ d. Went (tell (event.LeaveRaise o) (off (record d { error = None; course = course.Failed }) h.below))) p
 
-null_with-is : (h : Here) (c : CState) (caller : Option Activation) (a : Activation) (o : Option Obj) (l : List Obj) → IsBelow h.files caller h.below → lend_all l h.state ≡ c
+null_with-is : (h : Here) (c : CState) (caller : Option Activation) (a : Activation) (o : Option Obj) (l : List Obj) → IsBelow h.files caller h.below → lend l h.state ≡ c
     → made h (null_with caller a o l) ≡ need_some o fault.ErrorLost (λ e. need (owns_none a.own) fault.Unbalanced (hand_null c a.entered h.below e))
 null_with-is h c caller a None l e p = refl
 null_with-is h c caller a (Some x) l e p =
     passes h ((owns_none a.own, fault.Unbalanced) ∷ []) None (null_plan caller a.entered x l) (hand_null c a.entered h.below x)
     (null-is h c caller a.entered x l e p)
 
-number-is : (h : Here) (c : CState) (caller : Option Activation) (a : Activation) (v : Value) (l : List Obj) → IsBelow h.files caller h.below → lend_all l h.state ≡ c
+number-is : (h : Here) (c : CState) (caller : Option Activation) (a : Activation) (v : Value) (l : List Obj) → IsBelow h.files caller h.below → lend l h.state ≡ c
     → made h (after (checked (owns_none a.own) fault.Unbalanced None) (hand_plan caller v [] l)) ≡ need (owns_none a.own) fault.Unbalanced (to_caller c h.below v [])
 number-is h c caller a v l e p =
     passes h ((owns_none a.own, fault.Unbalanced) ∷ []) None (hand_plan caller v [] l) (to_caller c h.below v []) (hand-is h c caller v [] l e p)
 
 result-is : (h : Here) (c : CState) (caller : Option Activation) (fn : CFunction) (a : Activation) (ls : List Line) (v : Value) (l : List Obj)
-    → IsBelow h.files caller h.below → lend_all l h.state ≡ c
+    → IsBelow h.files caller h.below → lend l h.state ≡ c
     → made h (result_plan c.error caller a (result_kind fn.head) v l) ≡ return_value c (frame_at fn a ls) h.below v
 result-is h c caller fn a ls (value.Object o) l e p =
     passes h ((is_none c.error, fault.ErrorSet) ∷ (owns_just a.own o, fault.Unbalanced) ∷ []) None (object_plan caller a.entered o l)
@@ -412,7 +407,7 @@ return-is h caller fn a ls k v e =
     ∷ (may_read_with h.state.lock k v && same_lock h.state.lock a.lock, fault.Unlocked) ∷ []) None
     (result_plan h.state.error caller a (result_kind fn.head) v.value (lends k v))
     (return_value (lend (lends k v) h.state) (frame_at fn a ls) h.below v.value)
-    (result-is h (lend (lends k v) h.state) caller fn a ls v.value (lends k v) e (lent k v h.state))
+    (result-is h (lend (lends k v) h.state) caller fn a ls v.value (lends k v) e refl)
 
 -- every statement
 

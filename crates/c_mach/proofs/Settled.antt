@@ -23,7 +23,7 @@ use Rattle.c_state.specs.Objects.{NewResult, Gave, Raises, new_result, sure_resu
 use Rattle.c_state.specs.World.{read_in, answer_in}
 use Rattle.c_state.specs.State.{put, put_to, Frame, CState}
 use Rattle.c_state.specs.Reads.{Found, FoundFunction, NotFound, frame_of, entered_by, initializer_from, initializer_name}
-use Rattle.c_state.specs.Statements.{store, asking, Moved, Went, on, off, tell, script_to}
+use Rattle.c_state.specs.Statements.{store, lend, Moved, Went, on, off, tell, script_to}
 use Rattle.c_state.specs.Outside.{How, NewReference, Borrowed, SetsError, how, deliver_new, deliver_by, deliver, answered, called, await, enter, top_called, top, begin, idle}
 use Rattle.c_state.specs.Machine.{move, is_asking, none_runs, outside_by, outside, went_or, settle_for, settle}
 use Rattle.c_mach.specs.declared.parts.Standing.{Standing}
@@ -34,7 +34,7 @@ use Rattle.c_mach.specs.declared.parts.Turn.TheVariants as turn
 use Rattle.c_mach.specs.Views.{function_there, found_with, found_at, frame_by, frame_view, no_function, activated}
 use Rattle.c_mach.specs.Lookups.{standing_entered, standing_next}
 use Rattle.c_mach.specs.Turns.{Stage, living, is_found, fitting, rest_of, delivery_new, delivery_by, answer_turn, enter_turn, enter_else, enter_or, entry_turn, ask_turn, top_entry, top_turn, begin_there, begin_at, idle_go, Go, go, ask_go, doing_go, newest_go, failed_go, effect_go}
-use Rattle.c_mach.specs.Effects.{delivered, delivered_to, turned, course_after, lend_all, handed, effected}
+use Rattle.c_mach.specs.Effects.{delivered, delivered_to, turned, course_after, handed, effected}
 use Rattle.c_mach.specs.declared.parts.Activation.{Activation}
 use Rattle.c_mach.specs.declared.parts.Effect.{Effect}
 use Rattle.c_mach.specs.declared.parts.Effect.TheVariants as effect
@@ -379,36 +379,36 @@ pub effect-settled : (files : List CFile) (c d : CState) (f : Frame) (fs : List 
     → Settles files d (effect_go (stage_from files c) f.own caller c.world.script e)
 effect-settled files c d f fs caller (effect.Fault j) k q b p = cc
 effect-settled files c d f fs caller (effect.Write x v l) k q b p =
-    let s = on (lend_all l c) (record f { variables = put f.variables x v }) fs in
+    let s = on (lend l c) (record f { variables = put f.variables x v }) fs in
     on-settled files s d (record f { variables = put f.variables x v }) fs c.world.script (sym (went_is c d s (Went s) p refl)) refl k q
 effect-settled files c d f fs caller (effect.Store y v own l) k q b p =
-    let s = on (store (lend_all l c) f.file y v) (record f { own = own }) fs in
+    let s = on (store (lend l c) f.file y v) (record f { own = own }) fs in
     on-settled files s d (record f { own = own }) fs c.world.script (sym (went_is c d s (Went s) p refl)) refl k q
-effect-settled files c d f fs caller (effect.Ask o r x) k q b p =
-    let s = asking c f fs x r o in
-    along files d s (effect_go (stage_from files c) f.own caller c.world.script (effect.Ask o r x)) (went_is c d s (Went s) p refl)
+effect-settled files c d f fs caller (effect.Ask o r x y) k q b p =
+    let s = tell y (on (record c { loans = [] }) (record f { doing = doing.Asks o r x }) fs) in
+    along files d s (effect_go (stage_from files c) f.own caller c.world.script (effect.Ask o r x y)) (went_is c d s (Went s) p refl)
     (asks-settled files s (record f { doing = doing.Asks o r x }) fs o r x refl refl k)
 effect-settled files c d f fs caller (effect.Call a x l) k q b p =
-    let s = on (lend_all l c) (record (frame_view files a) { doing = doing.Runs }) (record f { doing = doing.Waits x } ∷ fs) in
+    let s = on (lend l c) (record (frame_view files a) { doing = doing.Runs }) (record f { doing = doing.Waits x } ∷ fs) in
     on-settled files s d (record (frame_view files a) { doing = doing.Runs }) (record f { doing = doing.Waits x } ∷ fs) c.world.script (sym (went_is c d s (Went s) p refl)) refl k refl
 effect-settled files c d f fs caller (effect.Gain own l) k q b p =
-    let s = on (lend_all l c) (record f { own = own }) fs in
+    let s = on (lend l c) (record f { own = own }) fs in
     on-settled files s d (record f { own = own }) fs c.world.script (sym (went_is c d s (Went s) p refl)) refl k q
 effect-settled files c d f fs caller (effect.Lose own) k q b p =
     let s = on (record c { loans = [] }) (record f { own = own }) fs in
     on-settled files s d (record f { own = own }) fs c.world.script (sym (went_is c d s (Went s) p refl)) refl k q
 effect-settled files c d f fs caller (effect.Jump None l) k q b p =
-    let s = on (lend_all l c) f fs in
+    let s = on (lend l c) f fs in
     on-settled files s d f fs c.world.script (sym (went_is c d s (Went s) p refl)) refl k q
 effect-settled files c d f fs caller (effect.Jump (Some i) l) k q b p =
-    let s = on (lend_all l c) (record f { code = drop i f.function.lines }) fs in
+    let s = on (lend l c) (record f { code = drop i f.function.lines }) fs in
     on-settled files s d (record f { code = drop i f.function.lines }) fs c.world.script (sym (went_is c d s (Went s) p refl)) refl k q
-effect-settled files c d f fs caller (effect.Hand x v own l) k q b p = hand-settled files (lend_all l c) d fs x v own c.world.script k p
+effect-settled files c d f fs caller (effect.Hand x v own l) k q b p = hand-settled files (lend l c) d fs x v own c.world.script k p
 effect-settled files c d f fs caller (effect.Leave o l) k q b p =
-    let s = tell (event.Leave o) (off (lend_all l c) fs) in
+    let s = tell (event.Leave o) (off (lend l c) fs) in
     along files d s (effect_go (stage_from files c) f.own caller c.world.script (effect.Leave o l)) (went_is c d s (Went s) p refl)
     (newest-settled files s caller b k)
 effect-settled files c d f fs caller (effect.LeaveRaise o failed l) k q b p =
-    let s = tell (event.LeaveRaise o) (off (record (lend_all l c) { error = None; course = course_after failed c.course }) fs) in
+    let s = tell (event.LeaveRaise o) (off (record (lend l c) { error = None; course = course_after failed c.course }) fs) in
     along files d s (effect_go (stage_from files c) f.own caller c.world.script (effect.LeaveRaise o failed l)) (went_is c d s (Went s) p refl)
     (failed-or files s failed c.course caller k refl b)

@@ -1,5 +1,5 @@
 -- What effects and the outside's turns make of a state.
-use Rattle.std.specs.Prelude.{ℕ, suc, Bool, true, false, List, [], ◌∷◌, ◌++◌, Option, Some, None, drop, reverse, if◌then◌else◌}
+use Rattle.std.specs.Prelude.{ℕ, suc, Bool, true, false, List, [], ◌∷◌, ◌++◌, Option, Some, None, drop}
 use Rattle.c_state.specs.declared.space.Obj.{Obj}
 use Rattle.c_state.specs.declared.space.Entry.{Entry}
 use Rattle.c_state.specs.declared.space.Event.TheVariants as event
@@ -12,7 +12,7 @@ use Rattle.c_state.specs.declared.state.Doing.TheVariants as doing
 use Rattle.c_state.specs.declared.state.Course.{Course}
 use Rattle.c_state.specs.declared.state.Course.TheVariants as course
 use Rattle.c_state.specs.State.{put, put_to, Frame, CState}
-use Rattle.c_state.specs.Statements.{Moved, Went, Faulted, on, off, tell, script_to, lend, store, asking}
+use Rattle.c_state.specs.Statements.{Moved, Went, Faulted, on, off, tell, script_to, lend, store}
 use Rattle.c_mach.specs.declared.parts.Effect.{Effect}
 use Rattle.c_mach.specs.declared.parts.Effect.TheVariants as effect
 use Rattle.c_mach.specs.declared.parts.Delivery.{Delivery}
@@ -20,10 +20,6 @@ use Rattle.c_mach.specs.declared.parts.Delivery.TheVariants as delivery
 use Rattle.c_mach.specs.declared.parts.Turn.{Turn}
 use Rattle.c_mach.specs.declared.parts.Turn.TheVariants as turn
 use Rattle.c_mach.specs.Views.{frame_view}
-
--- loans that come last are the newest
-abbrev pub lend_all : List Obj → CState → CState
-lend_all l c = lend (reverse l) c
 
 abbrev pub jumped : Frame → Option ℕ → Frame
 jumped f None = f
@@ -41,17 +37,17 @@ course_after false k = k
 -- an effect, with the frame that ran and those below it
 abbrev pub effected : List CFile → CState → Frame → List Frame → Effect → Moved
 effected files c f fs (effect.Fault k) = Faulted k
-effected files c f fs (effect.Write x v l) = Went (on (lend_all l c) (record f { variables = put f.variables x v }) fs)
-effected files c f fs (effect.Store p v own l) = Went (on (store (lend_all l c) f.file p v) (record f { own = own }) fs)
-effected files c f fs (effect.Ask o r x) = Went (asking c f fs x r o)
-effected files c f fs (effect.Call a x l) = Went (on (lend_all l c) (record (frame_view files a) { doing = doing.Runs }) (record f { doing = doing.Waits x } ∷ fs))
-effected files c f fs (effect.Gain own l) = Went (on (lend_all l c) (record f { own = own }) fs)
+effected files c f fs (effect.Write x v l) = Went (on (lend l c) (record f { variables = put f.variables x v }) fs)
+effected files c f fs (effect.Store p v own l) = Went (on (store (lend l c) f.file p v) (record f { own = own }) fs)
+effected files c f fs (effect.Ask o r x e) = Went (tell e (on (record c { loans = [] }) (record f { doing = doing.Asks o r x }) fs))
+effected files c f fs (effect.Call a x l) = Went (on (lend l c) (record (frame_view files a) { doing = doing.Runs }) (record f { doing = doing.Waits x } ∷ fs))
+effected files c f fs (effect.Gain own l) = Went (on (lend l c) (record f { own = own }) fs)
 effected files c f fs (effect.Lose own) = Went (on (record c { loans = [] }) (record f { own = own }) fs)
-effected files c f fs (effect.Jump i l) = Went (on (lend_all l c) (jumped f i) fs)
-effected files c f fs (effect.Hand x v own l) = handed (lend_all l c) fs x v own
-effected files c f fs (effect.Leave o l) = Went (tell (event.Leave o) (off (lend_all l c) fs))
+effected files c f fs (effect.Jump i l) = Went (on (lend l c) (jumped f i) fs)
+effected files c f fs (effect.Hand x v own l) = handed (lend l c) fs x v own
+effected files c f fs (effect.Leave o l) = Went (tell (event.Leave o) (off (lend l c) fs))
 effected files c f fs (effect.LeaveRaise e failed l) =
-    Went (tell (event.LeaveRaise e) (off (record (lend_all l c) { error = None; course = course_after failed c.course }) fs))
+    Went (tell (event.LeaveRaise e) (off (record (lend l c) { error = None; course = course_after failed c.course }) fs))
 
 -- an answer that reaches the frame that asked
 abbrev pub delivered : Option Variable → Delivery → CState → Frame → List Frame → CState

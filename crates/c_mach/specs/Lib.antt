@@ -1,3 +1,4 @@
+pub mod Applied
 pub mod Effects
 pub mod Lookups
 pub mod Moves

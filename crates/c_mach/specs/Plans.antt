@@ -1,7 +1,8 @@
 -- What a statement comes to, from the parts of the state that it reads: its faults in their order, and its effect.
-use Rattle.std.specs.Prelude.{ℕ, Bool, true, false, not, ◌&&◌, ◌||◌, List, [], ◌∷◌, ◌++◌, Option, Some, None, is_none, pos}
+use Rattle.std.specs.Prelude.{ℕ, Bool, true, false, not, ◌&&◌, ◌||◌, List, [], ◌∷◌, ◌++◌, Option, Some, None, is_none, reverse, pos}
 use Rattle.c_state.specs.declared.space.Obj.{Obj}
 use Rattle.c_state.specs.declared.space.Op.{Op}
+use Rattle.c_state.specs.declared.space.Event.TheVariants as event
 use Rattle.c_state.specs.declared.tree.Variable.{Variable}
 use Rattle.c_state.specs.declared.tree.Variable.TheVariants as variable
 use Rattle.c_state.specs.declared.tree.Place.{Place}
@@ -141,7 +142,7 @@ ask_fault lock error places here r vs =
 
 abbrev pub ask_plan : Bool → Option Obj → List (List Spot) → Activation → Option Variable → ApiRow → List Reading → Option Op → Effect
 ask_plan lock error places here x r vs None = effect.Fault fault.Stuck
-ask_plan lock error places here x r vs (Some o) = after (ask_fault lock error places here r vs) (effect.Ask o r x)
+ask_plan lock error places here x r vs (Some o) = after (ask_fault lock error places here r vs) (effect.Ask o r x (event.Ask o))
 
 abbrev pub row_plan : Bool → Option Obj → List (List Spot) → Activation → Option Variable → ApiRow → List Reading → Effect
 row_plan lock error places here x r vs =
@@ -158,7 +159,7 @@ call_fault lock here x ks vs h =
 abbrev pub call_held : Bool → List (List Spot) → Activation → Option Variable → List CValue → List Reading → Standing → CFunction → Effect
 call_held lock places here x ks vs s fn =
     after (checked (all_held_in places here (passed vs)) fault.Unheld None)
-    (effect.Call (activated s.file s.item fn (values_of vs) (passed vs) entered.FromC lock) x (loans_in ks vs))
+    (effect.Call (activated s.file s.item fn (values_of vs) (passed vs) entered.FromC lock) x (reverse (loans_in ks vs)))
 
 abbrev pub call_of : Bool → List (List Spot) → Activation → Option Variable → List CValue → List Reading → Standing → CFunction → Effect
 call_of lock places here x ks vs s fn = after (call_fault lock here x ks vs fn.head) (call_held lock places here x ks vs s fn)
@@ -210,7 +211,7 @@ abbrev pub branch_plan : Bool → CValue → Reading → Comparison → CValue �
 branch_plan lock a v r b w None = effect.Fault fault.Stuck
 branch_plan lock a v r b w (Some i) =
     after (branch_fault lock a v b w)
-    (effect.Jump (taken_line (by_comparison r (same_value v.value w.value)) i) (lends a v ++ lends b w))
+    (effect.Jump (taken_line (by_comparison r (same_value v.value w.value)) i) (lends b w ++ lends a v))
 
 abbrev pub jump_plan : Option ℕ → Effect
 jump_plan None = effect.Fault fault.Stuck

@@ -149,7 +149,7 @@ failed_go false s caller es = newest_go s caller es
 
 -- the turn after an effect
 abbrev pub effect_go : Stage → List Obj → Option Activation → List Entry → Effect → Go
-effect_go s own caller es (effect.Ask o r x) = ask_go s o r x own es
+effect_go s own caller es (effect.Ask o r x e) = ask_go s o r x own es
 effect_go s own caller es (effect.Leave o l) = newest_go s caller es
 effect_go s own caller es (effect.LeaveRaise e failed l) = failed_go failed s caller es
 effect_go s own caller es _ = go turn.Nothing es

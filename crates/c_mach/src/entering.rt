@@ -1,5 +1,5 @@
 //! Calls of C functions, and the frames of functions that are entered.
-ghost use Rattle.std.specs.Prelude.{◌≡◌, not, ◌||◌, ◌∷◌, ◌++◌, [], ℕ, Bool, Option, Some, None, IfOk, List, map};
+ghost use Rattle.std.specs.Prelude.{◌≡◌, not, ◌||◌, ◌∷◌, ◌++◌, [], ℕ, Bool, Option, Some, None, IfOk, List, map, reverse};
 ghost use Rattle.std.specs.Option.{option_copied};
 ghost use Rattle.c_state.specs.Reads.{any_module_variable, fits, receives, all_set, parameter_kinds_of, parameter_kinds, result_kind, values_of, zero_of, initial_value, declared_cell, plain_cells, wrapper_cells, parameter_cells, passed};
 ghost use Rattle.c_mach.specs.Views.{activated};
@@ -48,6 +48,17 @@ fn loans_in(alloc: Global, ks: &[CValue], vs: &[Reading]) -> Result<Items<Obj>, 
         lent.append(lends(alloc, k, v)?)?;
     }
     Ok(lent)
+}
+
+fn reversed(alloc: Global, objects: Items<Obj>) -> Result<Items<Obj>, OutOfMemory>
+    ensures { IfOk result (λ l. l ≡ reverse objects) }
+{
+    let mut objects = objects;
+    let mut turned = Items::new(alloc);
+    while let Some(object) = objects.pop() {
+        turned.push(object)?;
+    }
+    Ok(turned)
 }
 
 fn parameter_kinds_of(alloc: Global, parameters: &[Parameter]) -> Result<Items<Kind>, OutOfMemory>
@@ -206,11 +217,12 @@ fn call_enter(
     function: &CFunction,
     lent: Items<Obj>,
 ) -> Result<Effect, OutOfMemory>
-    ensures { IfOk result (λ e. e ≡ Effect.Call (activated entrance.standing.file entrance.standing.item function.now (values_of vs.now) lent entrance.entered entrance.lock) x (loans_in ks.now vs.now)) }
+    ensures { IfOk result (λ e. e ≡ Effect.Call (activated entrance.standing.file entrance.standing.item function.now (values_of vs.now) lent entrance.entered entrance.lock) x (reverse (loans_in ks.now vs.now))) }
 {
     let values = values_of(alloc, vs)?;
     let frame = activate(alloc, entrance, function, values.as_slice(), lent)?;
-    Ok(Effect::Call(frame, x, loans_in(alloc, ks, vs)?))
+    let lent = loans_in(alloc, ks, vs)?;
+    Ok(Effect::Call(frame, x, reversed(alloc, lent)?))
 }
 
 fn call_held(
@@ -225,7 +237,7 @@ fn call_held(
     function: &CFunction,
 ) -> Result<Effect, OutOfMemory>
     ensures { IfOk result (λ e. e ≡ after (checked (all_held_in places.now here.now (passed vs.now)) FaultKind.Unheld None)
-        (Effect.Call (activated standing.file standing.item function.now (values_of vs.now) (passed vs.now) Entered.FromC lock) x (loans_in ks.now vs.now))) }
+        (Effect.Call (activated standing.file standing.item function.now (values_of vs.now) (passed vs.now) Entered.FromC lock) x (reverse (loans_in ks.now vs.now)))) }
 {
     let lent = passed(alloc, vs)?;
     if !all_held(places, here, lent.as_slice()) {

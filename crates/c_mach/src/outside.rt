@@ -424,7 +424,7 @@ pub fn effect_go(
     ensures { IfOk result (λ m. go_of script.now m ≡ effect_go (stage_of stage.now) own.now (option_copied caller.entry) (drop taken script.now) effect.now) }
 {
     match effect {
-        Effect::Ask(op, row, to) => {
+        Effect::Ask(op, row, to, _) => {
             let asker = Asker {
                 op,
                 row: *row,

@@ -1,7 +1,7 @@
 //! What the machine holds, and what a statement and a move of the outside come to.
 use c_state::{
-    Answer, ApiRow, Bytes, CFile, Callee, Cell, Course, Doing, Entered, FaultKind, Obj, Op, Place,
-    Spot, Value, Variable,
+    Answer, ApiRow, Bytes, CFile, Callee, Cell, Course, Doing, Entered, Event, FaultKind, Obj, Op,
+    Place, Spot, Value, Variable,
 };
 use sqlite_items::Items;
 use std::alloc::Global;
@@ -52,7 +52,7 @@ pub struct Core {
     pub loans: Vec<Obj>,
 }
 
-/// What a statement comes to. Objects that are lent come last.
+/// What a statement comes to. The objects that it lends come last, the newest of them first.
 #[derive(Drop)]
 pub enum Effect {
     Fault(FaultKind),
@@ -60,8 +60,8 @@ pub enum Effect {
     Write(Variable, Value, Items<Obj>),
     /// a place gets a value; what the frame then owns
     Store(Place, Value, Items<Obj>, Items<Obj>),
-    /// an operation is asked
-    Ask(Op, ApiRow, Option<Variable>),
+    /// an operation is asked, and the event that says so
+    Ask(Op, ApiRow, Option<Variable>, Event),
     /// a function is entered, whose result goes to the variable
     Call(Activation, Option<Variable>, Items<Obj>),
     /// what the frame owns after an increment

@@ -1,6 +1,6 @@
 //! What a statement comes to: its faults in their order, and its effect. Nothing is changed here.
 ghost use Rattle.std.specs.Prelude.{◌≡◌, is_none, ◌∷◌, ◌++◌, [], ℕ, Bool, Option, Some, None, IfOk, List, slice_get};
-ghost use Rattle.c_state.specs.declared.state.Kind.{Kind};
+ghost use Rattle.c_state.specs.declared.space.Event.TheVariants as event;
 ghost use Rattle.std.specs.Option.{option_copied};
 ghost use Rattle.c_state.specs.State.{lose};
 ghost use Rattle.c_state.specs.Reads.{passed_with, passed, fits, parameter_kinds_of, parameter_kinds, result_kind, values_of};
@@ -8,7 +8,7 @@ ghost use Rattle.c_state.specs.Statements.{takes, object_of, text_of, definition
 ghost use Rattle.c_mach.specs.Plans.{checked, after, operands_in, loans_in, write_fault, write_plan, unowned, store_fault, own_after_store, store_plan, row_accepts, row_fault, ask_fault, ask_plan, row_plan, counted_fault, gain_of, gain_plan, loss_of, loss_plan, branch_fault, taken_line, branch_plan, jump_plan, return_fault, hand_by, hand_plan, object_plan, null_plan, null_with, result_plan, return_plan};
 
 use crate::OutOfMemory;
-use crate::copies::{copy_bytes, copy_obj, copy_objs, copy_value, with_first};
+use crate::copies::{copy_bytes, copy_obj, copy_objs, copy_op, copy_value, with_first};
 use crate::objects::{has, lose};
 use crate::operands::operand;
 use crate::parts::{Activation, Effect};
@@ -18,8 +18,8 @@ use crate::readings::{
     same_lock, same_value,
 };
 use c_state::{
-    ApiRow, BinaryOp, Bytes, CHead, CItem, CValue, Cell, Comparison, Doing, Entered, FaultKind,
-    Kind, Obj, Op, Parameter, Place, Reading, Spot, Value, Variable,
+    ApiRow, BinaryOp, Bytes, CHead, CItem, CValue, Cell, Comparison, Doing, Entered, Event,
+    FaultKind, Kind, Obj, Op, Parameter, Place, Reading, Spot, Value, Variable,
 };
 use sqlite_items::Items;
 use std::alloc::Global;
@@ -369,13 +369,11 @@ fn ask_fault(
     }
 }
 
-fn asked(fault: Option<FaultKind>, op: Op, row: ApiRow, x: Option<Variable>) -> Effect
-    ensures { result ≡ after fault (Effect.Ask op row x) }
+fn asked(alloc: Global, op: Op, row: ApiRow, x: Option<Variable>) -> Planned
+    ensures { IfOk result (λ e. e ≡ Effect.Ask op row x (event.Ask op)) }
 {
-    match fault {
-        Some(fault) => Effect::Fault(fault),
-        None => Effect::Ask(op, row, x),
-    }
+    let event = Event::Ask(copy_op(alloc, &op)?);
+    Ok(Effect::Ask(op, row, x, event))
 }
 
 /// `x = Py..(k, ..);`
@@ -394,11 +392,13 @@ pub fn row_plan(
     if let Some(fault) = row_fault(here.variables.as_slice(), x, row, vs) {
         return Ok(Effect::Fault(fault));
     }
-    let fault = ask_fault(alloc, lock, error, places, here, row, vs)?;
-    match op_of(alloc, row, vs)? {
-        None => Ok(Effect::Fault(FaultKind::Stuck)),
-        Some(op) => Ok(asked(fault, op, row, x)),
+    let Some(op) = op_of(alloc, row, vs)? else {
+        return Ok(Effect::Fault(FaultKind::Stuck));
+    };
+    if let Some(fault) = ask_fault(alloc, lock, error, places, here, row, vs)? {
+        return Ok(Effect::Fault(fault));
     }
+    asked(alloc, op, row, x)
 }
 
 fn counted_fault(lock: bool, v: &Reading) -> Option<FaultKind>
@@ -534,8 +534,8 @@ pub fn branch_plan(
     }
     let same = same_value(&left.reading.value, &right.reading.value);
     let taken = taken_line(by_comparison(comparison, same), line);
-    let mut lent = lends(alloc, left.operand, left.reading)?;
-    lent.append(lends(alloc, right.operand, right.reading)?)?;
+    let mut lent = lends(alloc, right.operand, right.reading)?;
+    lent.append(lends(alloc, left.operand, left.reading)?)?;
     Ok(Effect::Jump(taken, lent))
 }
 
