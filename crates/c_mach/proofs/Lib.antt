@@ -1,5 +1,6 @@
 pub mod Fits
 pub mod Pairs
 pub mod Planned
+pub mod Puts
 pub mod Searches
 pub mod Settled

@@ -326,8 +326,8 @@ asks-settled files d f fs o r x e q k =
     ∙ (asks-settle files (suc (length d.world.script)) d f fs o r x d.world.script (omega arith)
     ∙ ap (λ y. turned files g.rest y g.turn) (sym s))
 
-pub calm-settled : (files : List CFile) (d : CState) (es : List Entry) → outside d ≡ false → Settles files d (go turn.Nothing es)
-calm-settled files d es o = calm files (suc (suc (length d.world.script))) d o
+pub calm-settled : (files : List CFile) (d : CState) → outside d ≡ false → Settles files d (go turn.Nothing d.world.script)
+calm-settled files d o = calm files (suc (suc (length d.world.script))) d o
 
 pub failed-settled : (files : List CFile) (d : CState) → d.course ≡ course.Failed → Settles files d (go turn.End d.world.script)
 failed-settled files d k =
@@ -342,8 +342,8 @@ runs-calm d f fs e k q = ap (outside_by d) k ∙ (ap none_runs e ∙ q)
 doing-settled : (files : List CFile) (d : CState) (f : Frame) (fs : List Frame) (q : Doing) → d.frames ≡ f ∷ fs → f.doing ≡ q → d.course ≡ course.Goes
     → Settles files d (doing_go (stage_from files d) f.own d.world.script q)
 doing-settled files d f fs (doing.Asks o r x) e q k = asks-settled files d f fs o r x e q k
-doing-settled files d f fs doing.Runs e q k = calm-settled files d d.world.script (runs-calm d f fs e k (ap is_asking q))
-doing-settled files d f fs (doing.Waits x) e q k = calm-settled files d d.world.script (runs-calm d f fs e k (ap is_asking q))
+doing-settled files d f fs doing.Runs e q k = calm-settled files d (runs-calm d f fs e k (ap is_asking q))
+doing-settled files d f fs (doing.Waits x) e q k = calm-settled files d (runs-calm d f fs e k (ap is_asking q))
 
 pub newest-settled : (files : List CFile) (d : CState) (caller : Option Activation) → IsBelow files caller d.frames → d.course ≡ course.Goes
     → Settles files d (newest_go (stage_from files d) caller d.world.script)
@@ -358,21 +358,22 @@ along : (files : List CFile) (d s : CState) (g : Go) → s ≡ d → Settles fil
 along files d s g e h = sym (ap (settle files) e) ∙ (h ∙ ap (λ x. turned files g.rest x g.turn) e)
 
 -- the frame goes on
-on-settled : (files : List CFile) (c d : CState) (f : Frame) (fs : List Frame) (es : List Entry) → d ≡ c → c.frames ≡ f ∷ fs → c.course ≡ course.Goes → f.doing ≡ doing.Runs → Settles files d (go turn.Nothing es)
-on-settled files c d f fs es s e k q =
-    along files d c (go turn.Nothing es) (sym s) (calm-settled files c es (runs-calm c f fs e k (ap is_asking q)))
+on-settled : (files : List CFile) (c d : CState) (f : Frame) (fs : List Frame) → d ≡ c → c.frames ≡ f ∷ fs → c.course ≡ course.Goes → f.doing ≡ doing.Runs
+    → Settles files d (go turn.Nothing c.world.script)
+on-settled files c d f fs s e k q =
+    along files d c (go turn.Nothing c.world.script) (sym s) (calm-settled files c (runs-calm c f fs e k (ap is_asking q)))
 
 failed-or : (files : List CFile) (d : CState) (failed : Bool) (k : Course) (caller : Option Activation) → k ≡ course.Goes → d.course ≡ course_after failed k → IsBelow files caller d.frames
     → Settles files d (failed_go failed (stage_from files d) caller d.world.script)
 failed-or files d true k caller g e b = failed-settled files d e
 failed-or files d false k caller g e b = newest-settled files d caller b (e ∙ g)
 
-hand-settled : (files : List CFile) (c d : CState) (fs : List Frame) (x : Option Variable) (v : Value) (own : List Obj) (es : List Entry) → c.course ≡ course.Goes
-    → handed c fs x v own ≡ Went d → Settles files d (go turn.Nothing es)
-hand-settled files c d [] x v own es k p = cc
-hand-settled files c d (g ∷ gs) x v own es k p =
+hand-settled : (files : List CFile) (c d : CState) (fs : List Frame) (x : Option Variable) (v : Value) (own : List Obj) → c.course ≡ course.Goes
+    → handed c fs x v own ≡ Went d → Settles files d (go turn.Nothing c.world.script)
+hand-settled files c d [] x v own k p = cc
+hand-settled files c d (g ∷ gs) x v own k p =
     let s = on c (record g { doing = doing.Runs; own = own; variables = put_to g.variables x v }) gs in
-    on-settled files s d (record g { doing = doing.Runs; own = own; variables = put_to g.variables x v }) gs es (sym (went_is c d s (Went s) p refl)) refl k refl
+    on-settled files s d (record g { doing = doing.Runs; own = own; variables = put_to g.variables x v }) gs (sym (went_is c d s (Went s) p refl)) refl k refl
 
 pub effect-settled : (files : List CFile) (c d : CState) (f : Frame) (fs : List Frame) (caller : Option Activation) (e : Effect)
     → c.course ≡ course.Goes → f.doing ≡ doing.Runs → IsBelow files caller fs → effected files c f fs e ≡ Went d
@@ -380,30 +381,30 @@ pub effect-settled : (files : List CFile) (c d : CState) (f : Frame) (fs : List 
 effect-settled files c d f fs caller (effect.Fault j) k q b p = cc
 effect-settled files c d f fs caller (effect.Write x v l) k q b p =
     let s = on (lend l c) (record f { variables = put f.variables x v }) fs in
-    on-settled files s d (record f { variables = put f.variables x v }) fs c.world.script (sym (went_is c d s (Went s) p refl)) refl k q
+    on-settled files s d (record f { variables = put f.variables x v }) fs (sym (went_is c d s (Went s) p refl)) refl k q
 effect-settled files c d f fs caller (effect.Store y v own l) k q b p =
     let s = on (store (lend l c) f.file y v) (record f { own = own }) fs in
-    on-settled files s d (record f { own = own }) fs c.world.script (sym (went_is c d s (Went s) p refl)) refl k q
+    on-settled files s d (record f { own = own }) fs (sym (went_is c d s (Went s) p refl)) refl k q
 effect-settled files c d f fs caller (effect.Ask o r x y) k q b p =
     let s = tell y (on (record c { loans = [] }) (record f { doing = doing.Asks o r x }) fs) in
     along files d s (effect_go (stage_from files c) f.own caller c.world.script (effect.Ask o r x y)) (went_is c d s (Went s) p refl)
     (asks-settled files s (record f { doing = doing.Asks o r x }) fs o r x refl refl k)
 effect-settled files c d f fs caller (effect.Call a x l) k q b p =
     let s = on (lend l c) (record (frame_view files a) { doing = doing.Runs }) (record f { doing = doing.Waits x } ∷ fs) in
-    on-settled files s d (record (frame_view files a) { doing = doing.Runs }) (record f { doing = doing.Waits x } ∷ fs) c.world.script (sym (went_is c d s (Went s) p refl)) refl k refl
+    on-settled files s d (record (frame_view files a) { doing = doing.Runs }) (record f { doing = doing.Waits x } ∷ fs) (sym (went_is c d s (Went s) p refl)) refl k refl
 effect-settled files c d f fs caller (effect.Gain own l) k q b p =
     let s = on (lend l c) (record f { own = own }) fs in
-    on-settled files s d (record f { own = own }) fs c.world.script (sym (went_is c d s (Went s) p refl)) refl k q
+    on-settled files s d (record f { own = own }) fs (sym (went_is c d s (Went s) p refl)) refl k q
 effect-settled files c d f fs caller (effect.Lose own) k q b p =
     let s = on (record c { loans = [] }) (record f { own = own }) fs in
-    on-settled files s d (record f { own = own }) fs c.world.script (sym (went_is c d s (Went s) p refl)) refl k q
+    on-settled files s d (record f { own = own }) fs (sym (went_is c d s (Went s) p refl)) refl k q
 effect-settled files c d f fs caller (effect.Jump None l) k q b p =
     let s = on (lend l c) f fs in
-    on-settled files s d f fs c.world.script (sym (went_is c d s (Went s) p refl)) refl k q
+    on-settled files s d f fs (sym (went_is c d s (Went s) p refl)) refl k q
 effect-settled files c d f fs caller (effect.Jump (Some i) l) k q b p =
     let s = on (lend l c) (record f { code = drop i f.function.lines }) fs in
-    on-settled files s d (record f { code = drop i f.function.lines }) fs c.world.script (sym (went_is c d s (Went s) p refl)) refl k q
-effect-settled files c d f fs caller (effect.Hand x v own l) k q b p = hand-settled files (lend l c) d fs x v own c.world.script k p
+    on-settled files s d (record f { code = drop i f.function.lines }) fs (sym (went_is c d s (Went s) p refl)) refl k q
+effect-settled files c d f fs caller (effect.Hand x v own l) k q b p = hand-settled files (lend l c) d fs x v own k p
 effect-settled files c d f fs caller (effect.Leave o l) k q b p =
     let s = tell (event.Leave o) (off (lend l c) fs) in
     along files d s (effect_go (stage_from files c) f.own caller c.world.script (effect.Leave o l)) (went_is c d s (Went s) p refl)

@@ -5,6 +5,7 @@ use Rattle.c_state.specs.declared.space.Event.{Event}
 use Rattle.c_state.specs.declared.space.Event.TheVariants as event
 use Rattle.c_state.specs.declared.tree.Variable.{Variable}
 use Rattle.c_state.specs.declared.tree.Place.{Place}
+use Rattle.c_state.specs.declared.tree.CFile.{CFile}
 use Rattle.c_state.specs.declared.state.Spot.{Spot}
 use Rattle.c_state.specs.declared.state.Value.{Value}
 use Rattle.c_state.specs.declared.state.Value.TheVariants as value
@@ -32,10 +33,9 @@ pub record Parts : Type 0 where
   pub course : Course
   pub error : Option Obj
   pub loans : List Obj
-  pub events : List Event
 
-abbrev pub parts_of : Core → List Event → Parts
-parts_of c events = record {
+abbrev pub parts_of : Core → Parts
+parts_of c = record {
   taken = c.taken;
   frames = c.frames.items;
   places = c.places.items;
@@ -43,18 +43,24 @@ parts_of c events = record {
   course = c.course;
   error = c.error;
   loans = c.loans.items;
-  events = events;
 }
 
--- with a frame on top, more loans, and an event more
+-- what stays
+pub record Fixed : Type 0 where
+  pub files : List CFile
+  pub lock : Bool
+  pub instances : ℕ
+  pub views : ℕ
+
+abbrev pub fixed : Core → Fixed
+fixed c = record { files = c.files.items; lock = c.lock; instances = c.instances; views = c.views }
+
+-- with a frame on top, and with more loans
 abbrev pub above : Activation → Parts → Parts
 above a p = record p { frames = p.frames ++ a ∷ [] }
 
 abbrev pub lent_to : List Obj → Parts → Parts
 lent_to l p = record p { loans = p.loans ++ reverse l }
-
-abbrev pub told : Event → Parts → Parts
-told e p = record p { events = p.events ++ e ∷ [] }
 
 -- a change of the newest frame
 abbrev pub on_last : (Activation → Activation) → List Activation → List Activation
@@ -77,15 +83,22 @@ abbrev pub applied : Parts → Activation → Effect → Parts
 applied p a (effect.Fault k) = above a p
 applied p a (effect.Write x v l) = above (record a { variables = put a.variables x v }) (lent_to l p)
 applied p a (effect.Store y v own l) = above (record a { own = own }) (stored a.file y v (lent_to l p))
-applied p a (effect.Ask o r x e) = told e (above (record a { doing = doing.Asks o r x }) (record p { loans = [] }))
+applied p a (effect.Ask o r x e) = above (record a { doing = doing.Asks o r x }) (record p { loans = [] })
 applied p a (effect.Call b x l) = above (record b { doing = doing.Runs }) (above (record a { doing = doing.Waits x }) (lent_to l p))
 applied p a (effect.Gain own l) = above (record a { own = own }) (lent_to l p)
 applied p a (effect.Lose own) = above (record a { own = own }) (record p { loans = [] })
 applied p a (effect.Jump i l) = above (at_line i a) (lent_to l p)
 applied p a (effect.Hand x v own l) = lent_to l (record p { frames = on_last (given x v own) p.frames })
-applied p a (effect.Leave o l) = told (event.Leave o) (lent_to l p)
+applied p a (effect.Leave o l) = lent_to l p
 applied p a (effect.LeaveRaise e failed l) =
-    told (event.LeaveRaise e) (record (lent_to l p) { error = None; course = course_after failed p.course })
+    record (lent_to l p) { error = None; course = course_after failed p.course }
+
+-- the event of an effect
+abbrev pub effect_events : Effect → List Event
+effect_events (effect.Ask o r x e) = e ∷ []
+effect_events (effect.Leave o l) = event.Leave o ∷ []
+effect_events (effect.LeaveRaise e failed l) = event.LeaveRaise e ∷ []
+effect_events _ = []
 
 -- how many objects an effect lends
 abbrev pub lends_of : Effect → ℕ
@@ -116,8 +129,23 @@ delivered_in x (delivery.SetsError e) p = record p { frames = on_last runs p.fra
 -- a turn of the outside, after which so many entries are taken
 abbrev pub moved_on : ℕ → Turn → Parts → Parts
 moved_on n turn.Nothing p = record p { taken = n }
-moved_on n turn.Stop p = told event.Stop (record p { taken = n; course = course.Stopped })
-moved_on n turn.End p = told event.End (record p { taken = n; course = course.Ended })
-moved_on n (turn.Answer a x d) p = delivered_in x d (told (event.Answer a) (record p { taken = n }))
-moved_on n (turn.Enter callee args b) p = told (event.Enter callee args) (above b (record p { taken = n }))
-moved_on n (turn.Begin name k b) p = told (event.Init name) (record p { taken = n; begun = suc k; frames = b ∷ [] })
+moved_on n turn.Stop p = record p { taken = n; course = course.Stopped }
+moved_on n turn.End p = record p { taken = n; course = course.Ended }
+moved_on n (turn.Answer a x d) p = delivered_in x d (record p { taken = n })
+moved_on n (turn.Enter callee args b) p = above b (record p { taken = n })
+moved_on n (turn.Begin name k b) p = record p { taken = n; begun = suc k; frames = b ∷ [] }
+
+-- its event
+abbrev pub turn_events : Turn → List Event
+turn_events turn.Nothing = []
+turn_events turn.Stop = event.Stop ∷ []
+turn_events turn.End = event.End ∷ []
+turn_events (turn.Answer a x d) = event.Answer a ∷ []
+turn_events (turn.Enter callee args b) = event.Enter callee args ∷ []
+turn_events (turn.Begin name k b) = event.Init name ∷ []
+
+-- the newest frame
+abbrev pub last_of : List Activation → Option Activation
+last_of [] = None
+last_of (a ∷ []) = Some a
+last_of (a ∷ (b ∷ more)) = last_of (b ∷ more)

@@ -65,11 +65,11 @@ delivered_to (f ∷ fs) x d c = delivered x d c f fs
 
 -- a turn of the outside, with the entries that are left after it
 abbrev pub turned : List CFile → List Entry → CState → Turn → CState
-turned files es c turn.Nothing = c
+turned files es c turn.Nothing = script_to es c
 turned files es c turn.Stop = tell event.Stop (script_to es (record c { course = course.Stopped }))
 turned files es c turn.End = tell event.End (script_to es (record c { course = course.Ended }))
 turned files es c (turn.Answer a x d) = delivered_to c.frames x d (tell (event.Answer a) (script_to es c))
 turned files es c (turn.Enter callee args a) =
     tell (event.Enter callee args) (on (script_to es c) (frame_view files a) c.frames)
 turned files es c (turn.Begin name k a) =
-    tell (event.Init name) (on (record c { begun = suc k }) (frame_view files a) [])
+    tell (event.Init name) (on (record (script_to es c) { begun = suc k }) (frame_view files a) [])

@@ -1,6 +1,7 @@
 //! The machine that runs C trees over a script, a statement a step.
 #![tactic(auto)]
 
+mod apply;
 mod copies;
 mod entering;
 mod error;

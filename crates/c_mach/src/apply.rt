@@ -1,0 +1,116 @@
+//! Effects and turns, once nothing can fail: the memory is there before.
+ghost use Rattle.std.specs.Prelude.{◌≡◌, ◌∷◌, ◌++◌, [], ◌+◌, ◌<◌, ◌≤◌, suc, length, reverse, take, drop, Some, None, MatchOption, vec_len, vec_capacity};
+ghost use Rattle.std.specs.Option.{option_copied};
+ghost use Rattle.c_state.specs.State.{put, put_to, put_spot, spots_at, set_spots};
+ghost use Rattle.c_mach.specs.Applied.{Parts, parts_of, Fixed, fixed, above, lent_to, on_last, at_line, stored, given, applied, effect_events, lends_of, answered_to, runs, delivered_in, moved_on, turn_events, last_of};
+
+use crate::operands::{same_place, same_variable};
+use crate::parts::{Activation, Core, Delivery, Effect, Turn};
+use crate::readings::converted;
+use c_state::{ApiRow, Cell, Course, Doing, Event, Obj, Op, Place, Spot, Value, Variable};
+use sqlite_items::Items;
+
+/// Puts an item at the end, where there is room for it.
+fn put<T: Drop>(items: &mut Vec<T>, item: T)
+    requires { vec_len items.old < vec_capacity items.old }
+    ensures items { items.new.items ≡ items.old.items ++ item ∷ [] }
+    ensures len { vec_len items.new ≡ vec_len items.old + 1 }
+    ensures capacity { vec_capacity items.old ≤ vec_capacity items.new }
+{
+    match items.push(item) {
+        Ok(()) => {}
+        Err(_) => {}
+    }
+}
+
+/// Puts the objects at the end, the last of them first.
+fn put_all(loans: &mut Vec<Obj>, lent: Items<Obj>)
+    requires { vec_len loans.old + length lent ≤ vec_capacity loans.old }
+    ensures items { loans.new.items ≡ loans.old.items ++ reverse lent }
+    ensures len { vec_len loans.new ≡ vec_len loans.old + length lent }
+    ensures capacity { vec_capacity loans.old ≤ vec_capacity loans.new }
+{
+    let mut lent = lent;
+    while let Some(object) = lent.pop() {
+        put(loans, object);
+    }
+}
+
+/// A value for the first variable of that name.
+#[tactic(auto, using(crate::proofs::Puts::puts))]
+fn put_cell(cells: &mut Items<Cell>, x: Variable, value: Value)
+    ensures { cells.new ≡ put cells.old x value }
+{
+    for i in 0..cells.len() {
+        let cell = &cells.as_slice()[i];
+        let (variable, kind) = (cell.variable, cell.kind);
+        if same_variable(variable, x) {
+            let value = converted(kind, value);
+            cells.set(
+                i,
+                Cell {
+                    variable,
+                    kind,
+                    value,
+                },
+            );
+            return;
+        }
+    }
+}
+
+fn put_result(cells: &mut Items<Cell>, x: Option<Variable>, value: Value)
+    ensures { cells.new ≡ put_to cells.old x value }
+{
+    if let Some(x) = x {
+        put_cell(cells, x, value);
+    }
+}
+
+/// A value for the first place of that name.
+#[tactic(auto, using(crate::proofs::Puts::puts))]
+fn put_spot(spots: &mut Items<Spot>, place: Place, value: Value)
+    ensures { spots.new ≡ put_spot spots.old place value }
+{
+    for i in 0..spots.len() {
+        let spot = &spots.as_slice()[i];
+        let (name, kind) = (spot.place, spot.kind);
+        if same_place(name, place) {
+            let value = converted(kind, value);
+            spots.set(
+                i,
+                Spot {
+                    place: name,
+                    kind,
+                    value,
+                    stored: true,
+                },
+            );
+            return;
+        }
+    }
+}
+
+fn store_in(places: &mut Vec<Items<Spot>>, file: usize, place: Place, value: Value)
+    ensures { places.new.items ≡ set_spots places.old.items file (put_spot (spots_at places.old.items file) place value) }
+{
+    if file < places.len() {
+        put_spot(&mut places[file], place, value);
+    }
+}
+
+fn write(core: &mut Core, top: Activation, x: Variable, value: Value, lent: Items<Obj>)
+    requires frames_room { vec_len core.old.frames < vec_capacity core.old.frames }
+    requires loans_room { vec_len core.old.loans + length lent ≤ vec_capacity core.old.loans }
+    ensures parts { parts_of core.new ≡ applied (parts_of core.old) top (Effect.Write x value lent) }
+    ensures fixed { fixed core.new ≡ fixed core.old }
+    ensures frames { vec_len core.new.frames ≡ vec_len core.old.frames + 1 }
+    ensures frames_capacity { vec_capacity core.old.frames ≤ vec_capacity core.new.frames }
+    ensures loans { vec_len core.new.loans ≤ vec_len core.old.loans + length lent }
+    ensures loans_capacity { vec_capacity core.old.loans ≤ vec_capacity core.new.loans }
+{
+    let mut top = top;
+    put_cell(&mut top.variables, x, value);
+    put_all(&mut core.loans, lent);
+    put(&mut core.frames, top);
+}
