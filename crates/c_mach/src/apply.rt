@@ -37,7 +37,6 @@ fn put_all(loans: &mut Vec<Obj>, lent: Items<Obj>)
 }
 
 /// A value for the first variable of that name.
-#[tactic(auto, using(crate::proofs::Puts::puts))]
 fn put_cell(cells: &mut Items<Cell>, x: Variable, value: Value)
     ensures { cells.new ≡ put cells.old x value }
 {
@@ -68,7 +67,6 @@ fn put_result(cells: &mut Items<Cell>, x: Option<Variable>, value: Value)
 }
 
 /// A value for the first place of that name.
-#[tactic(auto, using(crate::proofs::Puts::puts))]
 fn put_spot(spots: &mut Items<Spot>, place: Place, value: Value)
     ensures { spots.new ≡ put_spot spots.old place value }
 {
