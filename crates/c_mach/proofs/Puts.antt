@@ -1,11 +1,13 @@
 -- A write to the first cell or spot of a name.
-use Rattle.std.proofs.Common.{◌≡◌, ℕ, zero, suc, ◌<◌, Bool, true, List, [], ◌∷◌, ◌++◌, take, drop, set, length, get_or, refl, sym, ap, ◌∙◌, if◌then◌else◌, arith}
+use Rattle.std.proofs.Common.{◌≡◌, ℕ, zero, suc, ◌<◌, Bool, true, Option, Some, List, [], ◌∷◌, ◌++◌, take, drop, set, length, get_or, refl, sym, ap, ◌∙◌, if◌then◌else◌, arith}
 use Rattle.std.proofs.Math.Seq.{drop-cons}
 use Rattle.c_state.specs.declared.tree.Variable.{Variable}
 use Rattle.c_state.specs.declared.tree.Place.{Place}
 use Rattle.c_state.specs.declared.state.Value.{Value}
 use Rattle.c_state.specs.declared.state.Cell.{Cell}
 use Rattle.c_state.specs.declared.state.Spot.{Spot}
+use Rattle.c_mach.specs.declared.parts.Activation.{Activation}
+use Rattle.c_mach.specs.Applied.{on_last, last_of}
 use Rattle.c_state.specs.State.{same_variable, same_place, converted, put, put_spot}
 
 pub set-split : {A : Type 0} → (xs : List A) (i : ℕ) (y : A) → i < length xs → set xs i y ≡ take i xs ++ y ∷ drop (suc i) xs
@@ -28,3 +30,15 @@ spot-hit ss p v w i s h at same to walked =
     ∙ (ap (λ y. take i ss ++ record s { value = y; stored = true } ∷ drop (suc i) ss) to
     ∙ sym (walked ∙ (ap (λ l. take i ss ++ put_spot l p v) (drop-cons ss i s h ∙ ap (λ y. y ∷ drop (suc i) ss) (sym at))
     ∙ ap (λ b. take i ss ++ (if b then record s { value = converted s.kind v; stored = true } ∷ drop (suc i) ss else s ∷ put_spot (drop (suc i) ss) p v)) same)))
+
+pub on_last-snoc : (h : Activation → Activation) (xs : List Activation) (a : Activation) → on_last h (xs ++ a ∷ []) ≡ xs ++ h a ∷ []
+on_last-snoc h [] a = refl
+on_last-snoc h (x ∷ []) a = refl
+on_last-snoc h (x ∷ (y ∷ ys)) a = ap (λ l. x ∷ l) (on_last-snoc h (y ∷ ys) a)
+
+pub last_of-snoc : (xs : List Activation) (a : Activation) → last_of (xs ++ a ∷ []) ≡ Some a
+last_of-snoc [] a = refl
+last_of-snoc (x ∷ []) a = refl
+last_of-snoc (x ∷ (y ∷ ys)) a = last_of-snoc (y ∷ ys) a
+
+pub ruleset lasts = (on_last-snoc, last_of-snoc)

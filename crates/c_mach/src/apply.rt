@@ -1,6 +1,9 @@
 //! Effects and turns, once nothing can fail: the memory is there before.
 ghost use Rattle.std.specs.Prelude.{◌≡◌, ◌∷◌, ◌++◌, [], ◌+◌, ◌<◌, ◌≤◌, suc, length, reverse, take, drop, Some, None, MatchOption, vec_len, vec_capacity};
 ghost use Rattle.std.specs.Option.{option_copied};
+ghost use Rattle.c_state.specs.declared.space.Event.{Event};
+ghost use Rattle.c_state.specs.declared.space.Obj.{Obj};
+ghost use Rattle.c_mach.specs.declared.parts.Activation.{Activation};
 ghost use Rattle.c_state.specs.State.{put, put_to, put_spot, spots_at, set_spots};
 ghost use Rattle.c_mach.specs.Applied.{Parts, parts_of, Fixed, fixed, above, lent_to, on_last, at_line, stored, given, applied, effect_events, lends_of, answered_to, runs, delivered_in, moved_on, turn_events, last_of};
 
@@ -98,11 +101,11 @@ fn store_in(places: &mut Vec<Items<Spot>>, file: usize, place: Place, value: Val
 }
 
 fn write(core: &mut Core, top: Activation, x: Variable, value: Value, lent: Items<Obj>)
-    requires frames_room { vec_len core.old.frames < vec_capacity core.old.frames }
+    requires frames_room { vec_len core.old.frames + 1 ≤ vec_capacity core.old.frames }
     requires loans_room { vec_len core.old.loans + length lent ≤ vec_capacity core.old.loans }
     ensures parts { parts_of core.new ≡ applied (parts_of core.old) top (Effect.Write x value lent) }
     ensures fixed { fixed core.new ≡ fixed core.old }
-    ensures frames { vec_len core.new.frames ≡ vec_len core.old.frames + 1 }
+    ensures frames { vec_len core.new.frames ≤ vec_len core.old.frames + 1 }
     ensures frames_capacity { vec_capacity core.old.frames ≤ vec_capacity core.new.frames }
     ensures loans { vec_len core.new.loans ≤ vec_len core.old.loans + length lent }
     ensures loans_capacity { vec_capacity core.old.loans ≤ vec_capacity core.new.loans }
@@ -111,4 +114,174 @@ fn write(core: &mut Core, top: Activation, x: Variable, value: Value, lent: Item
     put_cell(&mut top.variables, x, value);
     put_all(&mut core.loans, lent);
     put(&mut core.frames, top);
+}
+
+fn store(
+    core: &mut Core,
+    top: Activation,
+    place: Place,
+    value: Value,
+    own: Items<Obj>,
+    lent: Items<Obj>,
+)
+    requires frames_room { vec_len core.old.frames + 1 ≤ vec_capacity core.old.frames }
+    requires loans_room { vec_len core.old.loans + length lent ≤ vec_capacity core.old.loans }
+    ensures parts { parts_of core.new ≡ applied (parts_of core.old) top (Effect.Store place value own lent) }
+    ensures fixed { fixed core.new ≡ fixed core.old }
+    ensures frames { vec_len core.new.frames ≤ vec_len core.old.frames + 1 }
+    ensures frames_capacity { vec_capacity core.old.frames ≤ vec_capacity core.new.frames }
+    ensures loans { vec_len core.new.loans ≤ vec_len core.old.loans + length lent }
+    ensures loans_capacity { vec_capacity core.old.loans ≤ vec_capacity core.new.loans }
+{
+    let mut top = top;
+    top.own = own;
+    store_in(&mut core.places, top.file, place, value);
+    put_all(&mut core.loans, lent);
+    put(&mut core.frames, top);
+}
+
+fn call(
+    core: &mut Core,
+    top: Activation,
+    entered: Activation,
+    to: Option<Variable>,
+    lent: Items<Obj>,
+)
+    requires frames_room { vec_len core.old.frames + 2 ≤ vec_capacity core.old.frames }
+    requires loans_room { vec_len core.old.loans + length lent ≤ vec_capacity core.old.loans }
+    ensures parts { parts_of core.new ≡ applied (parts_of core.old) top (Effect.Call entered to lent) }
+    ensures fixed { fixed core.new ≡ fixed core.old }
+    ensures frames { vec_len core.new.frames ≤ vec_len core.old.frames + 2 }
+    ensures frames_capacity { vec_capacity core.old.frames ≤ vec_capacity core.new.frames }
+    ensures loans { vec_len core.new.loans ≤ vec_len core.old.loans + length lent }
+    ensures loans_capacity { vec_capacity core.old.loans ≤ vec_capacity core.new.loans }
+{
+    let mut top = top;
+    let mut entered = entered;
+    top.doing = Doing::Waits(to);
+    entered.doing = Doing::Runs;
+    put_all(&mut core.loans, lent);
+    put(&mut core.frames, top);
+    put(&mut core.frames, entered);
+}
+
+fn gain(core: &mut Core, top: Activation, own: Items<Obj>, lent: Items<Obj>)
+    requires frames_room { vec_len core.old.frames + 1 ≤ vec_capacity core.old.frames }
+    requires loans_room { vec_len core.old.loans + length lent ≤ vec_capacity core.old.loans }
+    ensures parts { parts_of core.new ≡ applied (parts_of core.old) top (Effect.Gain own lent) }
+    ensures fixed { fixed core.new ≡ fixed core.old }
+    ensures frames { vec_len core.new.frames ≤ vec_len core.old.frames + 1 }
+    ensures frames_capacity { vec_capacity core.old.frames ≤ vec_capacity core.new.frames }
+    ensures loans { vec_len core.new.loans ≤ vec_len core.old.loans + length lent }
+    ensures loans_capacity { vec_capacity core.old.loans ≤ vec_capacity core.new.loans }
+{
+    let mut top = top;
+    top.own = own;
+    put_all(&mut core.loans, lent);
+    put(&mut core.frames, top);
+}
+
+fn lose(core: &mut Core, top: Activation, own: Items<Obj>)
+    requires frames_room { vec_len core.old.frames + 1 ≤ vec_capacity core.old.frames }
+    ensures parts { parts_of core.new ≡ applied (parts_of core.old) top (Effect.Lose own) }
+    ensures fixed { fixed core.new ≡ fixed core.old }
+    ensures frames { vec_len core.new.frames ≤ vec_len core.old.frames + 1 }
+    ensures frames_capacity { vec_capacity core.old.frames ≤ vec_capacity core.new.frames }
+    ensures loans { vec_len core.new.loans ≤ vec_len core.old.loans }
+    ensures loans_capacity { vec_capacity core.old.loans ≤ vec_capacity core.new.loans }
+{
+    let mut top = top;
+    top.own = own;
+    core.loans.clear();
+    put(&mut core.frames, top);
+}
+
+fn jump(core: &mut Core, top: Activation, line: Option<usize>, lent: Items<Obj>)
+    requires frames_room { vec_len core.old.frames + 1 ≤ vec_capacity core.old.frames }
+    requires loans_room { vec_len core.old.loans + length lent ≤ vec_capacity core.old.loans }
+    ensures parts { parts_of core.new ≡ applied (parts_of core.old) top (Effect.Jump line lent) }
+    ensures fixed { fixed core.new ≡ fixed core.old }
+    ensures frames { vec_len core.new.frames ≤ vec_len core.old.frames + 1 }
+    ensures frames_capacity { vec_capacity core.old.frames ≤ vec_capacity core.new.frames }
+    ensures loans { vec_len core.new.loans ≤ vec_len core.old.loans + length lent }
+    ensures loans_capacity { vec_capacity core.old.loans ≤ vec_capacity core.new.loans }
+{
+    let mut top = top;
+    if let Some(line) = line {
+        top.line = line;
+    }
+    put_all(&mut core.loans, lent);
+    put(&mut core.frames, top);
+}
+
+fn ask(core: &mut Core, top: Activation, op: Op, row: ApiRow, to: Option<Variable>)
+    requires frames_room { vec_len core.old.frames + 1 ≤ vec_capacity core.old.frames }
+    ensures parts { (event : Event) → parts_of core.new ≡ applied (parts_of core.old) top (Effect.Ask op row to event) }
+    ensures fixed { fixed core.new ≡ fixed core.old }
+    ensures frames { vec_len core.new.frames ≤ vec_len core.old.frames + 1 }
+    ensures frames_capacity { vec_capacity core.old.frames ≤ vec_capacity core.new.frames }
+    ensures loans { vec_len core.new.loans ≤ vec_len core.old.loans }
+    ensures loans_capacity { vec_capacity core.old.loans ≤ vec_capacity core.new.loans }
+{
+    let mut top = top;
+    top.doing = Doing::Asks(op, row, to);
+    core.loans.clear();
+    put(&mut core.frames, top);
+}
+
+#[tactic(auto, using(crate::proofs::Puts::lasts))]
+/// The newest frame runs on; what it owns, and where the value goes.
+fn give(frames: &mut Vec<Activation>, to: Option<Variable>, value: Value, own: Items<Obj>)
+    ensures items { frames.new.items ≡ on_last (given to value own) frames.old.items }
+    ensures len { vec_len frames.new ≡ vec_len frames.old }
+    ensures capacity { vec_capacity frames.old ≤ vec_capacity frames.new }
+{
+    if let Some(newest) = frames.pop() {
+        let mut newest = newest;
+        newest.doing = Doing::Runs;
+        newest.own = own;
+        put_result(&mut newest.variables, to, value);
+        put(frames, newest);
+    }
+}
+
+fn hand(core: &mut Core, to: Option<Variable>, value: Value, own: Items<Obj>, lent: Items<Obj>)
+    requires loans_room { vec_len core.old.loans + length lent ≤ vec_capacity core.old.loans }
+    ensures parts { (top : Activation) → parts_of core.new ≡ applied (parts_of core.old) top (Effect.Hand to value own lent) }
+    ensures fixed { fixed core.new ≡ fixed core.old }
+    ensures frames { vec_len core.new.frames ≤ vec_len core.old.frames }
+    ensures frames_capacity { vec_capacity core.old.frames ≤ vec_capacity core.new.frames }
+    ensures loans { vec_len core.new.loans ≤ vec_len core.old.loans + length lent }
+    ensures loans_capacity { vec_capacity core.old.loans ≤ vec_capacity core.new.loans }
+{
+    give(&mut core.frames, to, value, own);
+    put_all(&mut core.loans, lent);
+}
+
+fn leave(core: &mut Core, lent: Items<Obj>)
+    requires loans_room { vec_len core.old.loans + length lent ≤ vec_capacity core.old.loans }
+    ensures parts { (top : Activation) (object : Obj) → parts_of core.new ≡ applied (parts_of core.old) top (Effect.Leave object lent) }
+    ensures fixed { fixed core.new ≡ fixed core.old }
+    ensures frames { vec_len core.new.frames ≤ vec_len core.old.frames }
+    ensures frames_capacity { vec_capacity core.old.frames ≤ vec_capacity core.new.frames }
+    ensures loans { vec_len core.new.loans ≤ vec_len core.old.loans + length lent }
+    ensures loans_capacity { vec_capacity core.old.loans ≤ vec_capacity core.new.loans }
+{
+    put_all(&mut core.loans, lent);
+}
+
+fn leave_raise(core: &mut Core, failed: bool, lent: Items<Obj>)
+    requires loans_room { vec_len core.old.loans + length lent ≤ vec_capacity core.old.loans }
+    ensures parts { (top : Activation) (object : Obj) → parts_of core.new ≡ applied (parts_of core.old) top (Effect.LeaveRaise object failed lent) }
+    ensures fixed { fixed core.new ≡ fixed core.old }
+    ensures frames { vec_len core.new.frames ≤ vec_len core.old.frames }
+    ensures frames_capacity { vec_capacity core.old.frames ≤ vec_capacity core.new.frames }
+    ensures loans { vec_len core.new.loans ≤ vec_len core.old.loans + length lent }
+    ensures loans_capacity { vec_capacity core.old.loans ≤ vec_capacity core.new.loans }
+{
+    put_all(&mut core.loans, lent);
+    core.error = None;
+    if failed {
+        core.course = Course::Failed;
+    }
 }
