@@ -1,5 +1,5 @@
 -- The searches by number find what the definitions find.
-use Rattle.std.proofs.Common.{◌≡◌, ℕ, zero, suc, Bool, true, false, List, [], ◌∷◌, Option, Some, None, option_map, refl, sym, ap, ◌∙◌, drop, slice_get, slice_index_or, nat_eq, if◌then◌else◌}
+use Rattle.std.proofs.Common.{◌≡◌, ℕ, zero, suc, Bool, true, false, List, [], ◌∷◌, Option, Some, None, option_map, refl, sym, ap, ◌∙◌, drop, slice_get, length, ◌<◌, arith, slice_index_or, nat_eq, if◌then◌else◌}
 use Rattle.c_state.specs.declared.tree.Line.{Line}
 use Rattle.c_state.specs.declared.tree.Line.TheVariants as line
 use Rattle.c_state.specs.declared.tree.CHead.{CHead}
@@ -131,3 +131,11 @@ entered-is files places (callee.Function p) = by_file (module_from 0 files p.mod
     by_file : (k : Option ℕ) → entered_in files places p.name k ≡ found_at files (standing_in files places p.name k)
     by_file None = refl
     by_file (Some k) = by_test k (is_ready (spots_at places k))
+
+-- a function stands in one of the files
+pub file-within : (files : List CFile) (k i : ℕ) (f : CFunction) → function_there files k i ≡ Some f → k < length files
+file-within [] k i f e = cc
+file-within (x ∷ xs) zero i f e = omega arith
+file-within (x ∷ xs) (suc k) i f e = omega (arith, file-within xs k i f e)
+
+pub ruleset functions_within = (file-within)

@@ -1,5 +1,5 @@
 -- What effects and turns make of the machine's parts, where the newest frame and the newest loan come last.
-use Rattle.std.specs.Prelude.{ℕ, suc, Bool, true, false, List, [], ◌∷◌, ◌++◌, Option, Some, None, reverse, length, if◌then◌else◌}
+use Rattle.std.specs.Prelude.{ℕ, Bool, true, false, List, [], ◌∷◌, ◌++◌, Option, Some, None, reverse, length, if◌then◌else◌}
 use Rattle.c_state.specs.declared.space.Obj.{Obj}
 use Rattle.c_state.specs.declared.space.Event.{Event}
 use Rattle.c_state.specs.declared.space.Event.TheVariants as event
@@ -133,7 +133,7 @@ moved_on n turn.Stop p = record p { taken = n; course = course.Stopped }
 moved_on n turn.End p = record p { taken = n; course = course.Ended }
 moved_on n (turn.Answer a x d) p = delivered_in x d (record p { taken = n })
 moved_on n (turn.Enter callee args b) p = above b (record p { taken = n })
-moved_on n (turn.Begin name k b) p = record p { taken = n; begun = suc k; frames = b ∷ [] }
+moved_on n (turn.Begin name k b) p = record p { taken = n; begun = k; frames = b ∷ [] }
 
 -- its event
 abbrev pub turn_events : Turn → List Event

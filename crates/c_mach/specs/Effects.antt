@@ -1,5 +1,5 @@
 -- What effects and the outside's turns make of a state.
-use Rattle.std.specs.Prelude.{ℕ, suc, Bool, true, false, List, [], ◌∷◌, ◌++◌, Option, Some, None, drop}
+use Rattle.std.specs.Prelude.{ℕ, Bool, true, false, List, [], ◌∷◌, ◌++◌, Option, Some, None, drop}
 use Rattle.c_state.specs.declared.space.Obj.{Obj}
 use Rattle.c_state.specs.declared.space.Entry.{Entry}
 use Rattle.c_state.specs.declared.space.Event.TheVariants as event
@@ -72,4 +72,4 @@ turned files es c (turn.Answer a x d) = delivered_to c.frames x d (tell (event.A
 turned files es c (turn.Enter callee args a) =
     tell (event.Enter callee args) (on (script_to es c) (frame_view files a) c.frames)
 turned files es c (turn.Begin name k a) =
-    tell (event.Init name) (on (record (script_to es c) { begun = suc k }) (frame_view files a) [])
+    tell (event.Init name) (on (record (script_to es c) { begun = k }) (frame_view files a) [])

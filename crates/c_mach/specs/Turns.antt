@@ -1,5 +1,5 @@
 -- The turn that the outside takes after a statement, from the parts of the state that it reads.
-use Rattle.std.specs.Prelude.{ℕ, Bool, true, false, List, [], ◌∷◌, Option, Some, None, pos, length, drop, if◌then◌else◌}
+use Rattle.std.specs.Prelude.{ℕ, suc, Bool, true, false, List, [], ◌∷◌, Option, Some, None, pos, length, drop, if◌then◌else◌}
 use Rattle.c_state.specs.declared.space.Obj.{Obj}
 use Rattle.c_state.specs.declared.space.Op.{Op}
 use Rattle.c_state.specs.declared.space.Answer.{Answer}
@@ -124,7 +124,7 @@ top_go s es = go (top_turn s (fitting s.files s.places es)) (rest_of (fitting s.
 abbrev pub begin_there : Stage → List Entry → Standing → Option CFunction → Go
 begin_there s es at None = top_go s es
 begin_there s es at (Some fn) =
-    go (turn.Begin (initializer_name fn.head) at.file (activated at.file at.item fn [] [] entered.ForInitialisation s.lock)) es
+    go (turn.Begin (initializer_name fn.head) (suc at.file) (activated at.file at.item fn [] [] entered.ForInitialisation s.lock)) es
 
 abbrev pub begin_at : Stage → List Entry → Option Standing → Go
 begin_at s es None = top_go s es

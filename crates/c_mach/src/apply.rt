@@ -1,9 +1,7 @@
 //! Effects and turns, once nothing can fail: the memory is there before.
 ghost use Rattle.std.specs.Prelude.{◌≡◌, ◌∷◌, ◌++◌, [], ◌+◌, ◌<◌, ◌≤◌, suc, length, reverse, take, drop, Some, None, MatchOption, vec_len, vec_capacity};
 ghost use Rattle.std.specs.Option.{option_copied};
-ghost use Rattle.c_state.specs.declared.space.Event.{Event};
-ghost use Rattle.c_state.specs.declared.space.Obj.{Obj};
-ghost use Rattle.c_mach.specs.declared.parts.Activation.{Activation};
+ghost use Rattle.c_mach.specs.Effects.{course_after};
 ghost use Rattle.c_state.specs.State.{put, put_to, put_spot, spots_at, set_spots};
 ghost use Rattle.c_mach.specs.Applied.{Parts, parts_of, Fixed, fixed, above, lent_to, on_last, at_line, stored, given, applied, effect_events, lends_of, answered_to, runs, delivered_in, moved_on, turn_events, last_of};
 
@@ -216,7 +214,7 @@ fn jump(core: &mut Core, top: Activation, line: Option<usize>, lent: Items<Obj>)
 
 fn ask(core: &mut Core, top: Activation, op: Op, row: ApiRow, to: Option<Variable>)
     requires frames_room { vec_len core.old.frames + 1 ≤ vec_capacity core.old.frames }
-    ensures parts { (event : Event) → parts_of core.new ≡ applied (parts_of core.old) top (Effect.Ask op row to event) }
+    ensures parts { parts_of core.new ≡ above (record top { doing = Doing.Asks op row to }) (record (parts_of core.old) { loans = [] }) }
     ensures fixed { fixed core.new ≡ fixed core.old }
     ensures frames { vec_len core.new.frames ≤ vec_len core.old.frames + 1 }
     ensures frames_capacity { vec_capacity core.old.frames ≤ vec_capacity core.new.frames }
@@ -247,7 +245,7 @@ fn give(frames: &mut Vec<Activation>, to: Option<Variable>, value: Value, own: I
 
 fn hand(core: &mut Core, to: Option<Variable>, value: Value, own: Items<Obj>, lent: Items<Obj>)
     requires loans_room { vec_len core.old.loans + length lent ≤ vec_capacity core.old.loans }
-    ensures parts { (top : Activation) → parts_of core.new ≡ applied (parts_of core.old) top (Effect.Hand to value own lent) }
+    ensures parts { parts_of core.new ≡ lent_to lent (record (parts_of core.old) { frames = on_last (given to value own) core.old.frames.items }) }
     ensures fixed { fixed core.new ≡ fixed core.old }
     ensures frames { vec_len core.new.frames ≤ vec_len core.old.frames }
     ensures frames_capacity { vec_capacity core.old.frames ≤ vec_capacity core.new.frames }
@@ -260,7 +258,7 @@ fn hand(core: &mut Core, to: Option<Variable>, value: Value, own: Items<Obj>, le
 
 fn leave(core: &mut Core, lent: Items<Obj>)
     requires loans_room { vec_len core.old.loans + length lent ≤ vec_capacity core.old.loans }
-    ensures parts { (top : Activation) (object : Obj) → parts_of core.new ≡ applied (parts_of core.old) top (Effect.Leave object lent) }
+    ensures parts { parts_of core.new ≡ lent_to lent (parts_of core.old) }
     ensures fixed { fixed core.new ≡ fixed core.old }
     ensures frames { vec_len core.new.frames ≤ vec_len core.old.frames }
     ensures frames_capacity { vec_capacity core.old.frames ≤ vec_capacity core.new.frames }
@@ -272,7 +270,7 @@ fn leave(core: &mut Core, lent: Items<Obj>)
 
 fn leave_raise(core: &mut Core, failed: bool, lent: Items<Obj>)
     requires loans_room { vec_len core.old.loans + length lent ≤ vec_capacity core.old.loans }
-    ensures parts { (top : Activation) (object : Obj) → parts_of core.new ≡ applied (parts_of core.old) top (Effect.LeaveRaise object failed lent) }
+    ensures parts { parts_of core.new ≡ record (lent_to lent (parts_of core.old)) { error = None; course = course_after failed core.old.course } }
     ensures fixed { fixed core.new ≡ fixed core.old }
     ensures frames { vec_len core.new.frames ≤ vec_len core.old.frames }
     ensures frames_capacity { vec_capacity core.old.frames ≤ vec_capacity core.new.frames }
@@ -283,5 +281,139 @@ fn leave_raise(core: &mut Core, failed: bool, lent: Items<Obj>)
     core.error = None;
     if failed {
         core.course = Course::Failed;
+    }
+}
+
+/// What an effect changes, and its event.
+pub fn apply_effect(core: &mut Core, events: &mut Vec<Event>, top: Activation, effect: Effect)
+    requires frames_room { vec_len core.old.frames + 2 ≤ vec_capacity core.old.frames }
+    requires loans_room { vec_len core.old.loans + lends_of effect ≤ vec_capacity core.old.loans }
+    requires events_room { vec_len events.old < vec_capacity events.old }
+    ensures parts { parts_of core.new ≡ applied (parts_of core.old) top effect }
+    ensures fixed { fixed core.new ≡ fixed core.old }
+    ensures frames { vec_len core.new.frames ≤ vec_len core.old.frames + 2 }
+    ensures frames_capacity { vec_capacity core.old.frames ≤ vec_capacity core.new.frames }
+    ensures loans { vec_len core.new.loans ≤ vec_len core.old.loans + lends_of effect }
+    ensures loans_capacity { vec_capacity core.old.loans ≤ vec_capacity core.new.loans }
+    ensures events { events.new.items ≡ events.old.items ++ effect_events effect }
+    ensures events_len { vec_len events.new ≤ vec_len events.old + 1 }
+    ensures events_capacity { vec_capacity events.old ≤ vec_capacity events.new }
+{
+    match effect {
+        Effect::Fault(_) => put(&mut core.frames, top),
+        Effect::Write(x, value, lent) => write(core, top, x, value, lent),
+        Effect::Store(place, value, own, lent) => store(core, top, place, value, own, lent),
+        Effect::Ask(op, row, to, event) => {
+            put(events, event);
+            ask(core, top, op, row, to);
+        }
+        Effect::Call(entered, to, lent) => call(core, top, entered, to, lent),
+        Effect::Gain(own, lent) => gain(core, top, own, lent),
+        Effect::Lose(own) => lose(core, top, own),
+        Effect::Jump(line, lent) => jump(core, top, line, lent),
+        Effect::Hand(to, value, own, lent) => hand(core, to, value, own, lent),
+        Effect::Leave(object, lent) => {
+            put(events, Event::Leave(object));
+            leave(core, lent);
+        }
+        Effect::LeaveRaise(error, failed, lent) => {
+            put(events, Event::LeaveRaise(error));
+            leave_raise(core, failed, lent);
+        }
+    }
+}
+
+#[tactic(auto, using(crate::proofs::Puts::lasts))]
+fn give_value(frames: &mut Vec<Activation>, to: Option<Variable>, value: Value)
+    ensures items { frames.new.items ≡ on_last (answered_to to value) frames.old.items }
+    ensures len { vec_len frames.new ≡ vec_len frames.old }
+    ensures capacity { vec_capacity frames.old ≤ vec_capacity frames.new }
+{
+    if let Some(newest) = frames.pop() {
+        let mut newest = newest;
+        newest.doing = Doing::Runs;
+        put_result(&mut newest.variables, to, value);
+        put(frames, newest);
+    }
+}
+
+#[tactic(auto, using(crate::proofs::Puts::lasts))]
+fn run_on(frames: &mut Vec<Activation>)
+    ensures items { frames.new.items ≡ on_last runs frames.old.items }
+    ensures len { vec_len frames.new ≡ vec_len frames.old }
+    ensures capacity { vec_capacity frames.old ≤ vec_capacity frames.new }
+{
+    if let Some(newest) = frames.pop() {
+        let mut newest = newest;
+        newest.doing = Doing::Runs;
+        put(frames, newest);
+    }
+}
+
+/// An answer reaches the frame that asked.
+fn deliver(core: &mut Core, to: Option<Variable>, delivery: Delivery)
+    requires { vec_len core.old.loans < vec_capacity core.old.loans }
+    ensures parts { parts_of core.new ≡ delivered_in to delivery (parts_of core.old) }
+    ensures fixed { fixed core.new ≡ fixed core.old }
+{
+    match delivery {
+        Delivery::New(own, object) => give(&mut core.frames, to, Value::Object(object), own),
+        Delivery::Raised(error) => {
+            give_value(&mut core.frames, to, Value::Null);
+            core.error = Some(error);
+        }
+        Delivery::Borrowed(object, loan) => {
+            give_value(&mut core.frames, to, Value::Object(object));
+            put(&mut core.loans, loan);
+        }
+        Delivery::SetsError(error) => {
+            run_on(&mut core.frames);
+            core.error = Some(error);
+        }
+    }
+}
+
+fn begin(core: &mut Core, begun: usize, frame: Activation)
+    requires { vec_len core.old.frames < vec_capacity core.old.frames }
+    ensures parts { parts_of core.new ≡ record (parts_of core.old) { begun = begun; frames = frame ∷ [] } }
+    ensures fixed { fixed core.new ≡ fixed core.old }
+{
+    core.begun = begun;
+    core.frames.clear();
+    put(&mut core.frames, frame);
+}
+
+/// What a turn changes, and its event.
+pub fn apply_turn(core: &mut Core, events: &mut Vec<Event>, turn: Turn, taken: usize)
+    requires frames_room { vec_len core.old.frames < vec_capacity core.old.frames }
+    requires loans_room { vec_len core.old.loans < vec_capacity core.old.loans }
+    requires events_room { vec_len events.old < vec_capacity events.old }
+    ensures parts { parts_of core.new ≡ moved_on taken turn (parts_of core.old) }
+    ensures fixed { fixed core.new ≡ fixed core.old }
+    ensures events { events.new.items ≡ events.old.items ++ turn_events turn }
+{
+    core.taken = taken;
+    match turn {
+        Turn::Nothing => {}
+        Turn::Stop => {
+            put(events, Event::Stop);
+            core.course = Course::Stopped;
+        }
+        Turn::End => {
+            put(events, Event::End);
+            core.course = Course::Ended;
+        }
+        Turn::Answer(answer, to, delivery) => {
+            put(events, Event::Answer(answer));
+            deliver(core, to, delivery);
+        }
+        Turn::Enter(callee, args, frame) => {
+            put(events, Event::Enter(callee, args));
+            put(&mut core.frames, frame);
+        }
+        Turn::Begin(name, begun, frame) => {
+            put(events, Event::Init(name));
+            begin(core, begun, frame);
+        }
     }
 }

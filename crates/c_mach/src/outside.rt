@@ -1,5 +1,5 @@
 //! The turn that the outside takes: it starts initialisations, takes entries, enters functions and answers operations.
-ghost use Rattle.std.specs.Prelude.{◌≡◌, ◌∷◌, [], ◌≤◌, pos, length, ℕ, Option, Some, None, IfOk, drop, slice_get};
+ghost use Rattle.std.specs.Prelude.{◌≡◌, ◌∷◌, [], ◌+◌, ◌^◌, ◌<◌, suc, pos, length, ℕ, Option, Some, None, IfOk, drop, slice_get};
 ghost use Rattle.std.specs.Option.{option_copied};
 ghost use Rattle.c_state.specs.declared.tree.CHead.{CHead};
 ghost use Rattle.c_state.specs.Objects.{read_obj, read_objs, answer, raised, unfit, fits_of, new_result, sure_result};
@@ -344,7 +344,8 @@ fn initializer_name(alloc: Global, head: &CHead) -> Result<Bytes, OutOfMemory>
 }
 
 fn begin_turn(stage: &Stage<'_>, standing: Standing, function: &CFunction) -> Turned
-    ensures { IfOk result (λ t. t ≡ Turn.Begin (initializer_name function.now.head) standing.file
+    requires { standing.file + 1 < 2 ^ 64 }
+    ensures { IfOk result (λ t. t ≡ Turn.Begin (initializer_name function.now.head) (suc standing.file)
         (activated standing.file standing.item function.now [] [] Entered.ForInitialisation stage.now.lock)) }
 {
     let alloc = stage.alloc;
@@ -356,11 +357,12 @@ fn begin_turn(stage: &Stage<'_>, standing: Standing, function: &CFunction) -> Tu
     let frame = activate(alloc, entrance, function, &[], Items::new(alloc))?;
     Ok(Turn::Begin(
         initializer_name(alloc, &function.head)?,
-        standing.file,
+        standing.file + 1,
         frame,
     ))
 }
 
+#[tactic(auto, using(crate::proofs::Searches::functions_within))]
 /// The turn where no function runs: the next initialisation, if there is one.
 pub fn idle_go(stage: &Stage<'_>, script: &[Entry], taken: usize) -> Moved
     ensures { IfOk result (λ m. go_of script.now m ≡ idle_go (stage_of stage.now) (drop taken script.now)) }

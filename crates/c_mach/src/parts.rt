@@ -97,5 +97,6 @@ pub enum Turn {
     End,
     Answer(Answer, Option<Variable>, Delivery),
     Enter(Callee, Items<Obj>, Activation),
+    /// with the number of the next file that may begin
     Begin(Bytes, usize, Activation),
 }
