@@ -1,5 +1,5 @@
 -- What effects and turns make of the machine's parts, where the newest frame and the newest loan come last.
-use Rattle.std.specs.Prelude.{ℕ, Bool, true, false, List, [], ◌∷◌, ◌++◌, Option, Some, None, reverse, length, if◌then◌else◌}
+use Rattle.std.specs.Prelude.{ℕ, Bool, true, false, List, [], ◌∷◌, ◌++◌, Option, Some, None, reverse, length, drop}
 use Rattle.c_state.specs.declared.space.Obj.{Obj}
 use Rattle.c_state.specs.declared.space.Event.{Event}
 use Rattle.c_state.specs.declared.space.Event.TheVariants as event
@@ -13,7 +13,9 @@ use Rattle.c_state.specs.declared.state.Doing.{Doing}
 use Rattle.c_state.specs.declared.state.Doing.TheVariants as doing
 use Rattle.c_state.specs.declared.state.Course.{Course}
 use Rattle.c_state.specs.declared.state.Course.TheVariants as course
-use Rattle.c_state.specs.State.{put, put_to, spots_at, set_spots, put_spot}
+use Rattle.c_state.specs.declared.space.Entry.{Entry}
+use Rattle.c_mach.specs.Views.{frames_view}
+use Rattle.c_state.specs.State.{CState, put, put_to, spots_at, set_spots, put_spot}
 use Rattle.c_mach.specs.declared.parts.Activation.{Activation}
 use Rattle.c_mach.specs.declared.parts.Core.{Core}
 use Rattle.c_mach.specs.declared.parts.Effect.{Effect}
@@ -149,3 +151,16 @@ abbrev pub last_of : List Activation → Option Activation
 last_of [] = None
 last_of (a ∷ []) = Some a
 last_of (a ∷ (b ∷ more)) = last_of (b ∷ more)
+
+-- the state that the parts stand for, with the entries of a script that are left and the events so far
+abbrev pub seen : Fixed → Parts → List Entry → List Event → CState
+seen x p script events = record {
+  world = record { script = drop p.taken script; instances = x.instances; views = x.views; events = events };
+  frames = frames_view x.files p.frames;
+  places = p.places;
+  begun = p.begun;
+  course = p.course;
+  error = p.error;
+  lock = x.lock;
+  loans = reverse p.loans;
+}

@@ -59,8 +59,14 @@ delivered x (delivery.Borrowed o loan) c f fs =
     on (record c { loans = loan ∷ c.loans }) (record f { doing = doing.Runs; variables = put_to f.variables x (value.Object o) }) fs
 delivered x (delivery.SetsError e) c f fs = on (record c { error = Some e }) (record f { doing = doing.Runs }) fs
 
+abbrev pub delivered_nowhere : Delivery → CState → CState
+delivered_nowhere (delivery.New own o) c = c
+delivered_nowhere (delivery.Raised e) c = record c { error = Some e }
+delivered_nowhere (delivery.Borrowed o loan) c = record c { loans = loan ∷ c.loans }
+delivered_nowhere (delivery.SetsError e) c = record c { error = Some e }
+
 abbrev pub delivered_to : List Frame → Option Variable → Delivery → CState → CState
-delivered_to [] x d c = c
+delivered_to [] x d c = delivered_nowhere d c
 delivered_to (f ∷ fs) x d c = delivered x d c f fs
 
 -- a turn of the outside, with the entries that are left after it

@@ -1,8 +1,6 @@
 -- The machine's parts as the state that they stand for.
 use Rattle.std.specs.Prelude.{ℕ, List, [], ◌∷◌, Option, Some, None, Bool, map, drop, reverse, slice_get, unwrap_or, ◌++◌}
 use Rattle.c_state.specs.declared.space.Obj.{Obj}
-use Rattle.c_state.specs.declared.space.Entry.{Entry}
-use Rattle.c_state.specs.declared.space.Event.{Event}
 use Rattle.c_state.specs.declared.tree.CHead.{CHead}
 use Rattle.c_state.specs.declared.tree.CHead.TheVariants as head
 use Rattle.c_state.specs.declared.tree.CFunction.{CFunction}
@@ -13,12 +11,10 @@ use Rattle.c_state.specs.declared.state.Cell.{Cell}
 use Rattle.c_state.specs.declared.state.Entered.{Entered}
 use Rattle.c_state.specs.declared.state.Value.{Value}
 use Rattle.c_state.specs.declared.state.Doing.TheVariants as doing
-use Rattle.c_state.specs.World.{World}
-use Rattle.c_state.specs.State.{Frame, CState}
+use Rattle.c_state.specs.State.{Frame}
 use Rattle.c_state.specs.Reads.{items_at, Found, FoundFunction, NotFound, declared_cell, parameter_cells}
 use Rattle.c_mach.specs.declared.parts.Standing.{Standing}
 use Rattle.c_mach.specs.declared.parts.Activation.{Activation}
-use Rattle.c_mach.specs.declared.parts.Core.{Core}
 
 -- the function of an item, if it is one
 abbrev pub as_function : Option CItem → Option CFunction
@@ -77,17 +73,4 @@ activated k i fn vs lent by lock = record {
   entered = by;
   doing = doing.Runs;
   lock = lock;
-}
-
--- the state, in a world
-abbrev pub opened : Core → List Entry → List Event → CState
-opened c script events = record {
-  world = record { script = drop c.taken script; instances = c.instances; views = c.views; events = events };
-  frames = frames_view c.files.items c.frames.items;
-  places = c.places.items;
-  begun = c.begun;
-  course = c.course;
-  error = c.error;
-  lock = c.lock;
-  loans = reverse c.loans.items;
 }
