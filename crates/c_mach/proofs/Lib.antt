@@ -1,3 +1,4 @@
+pub mod Calm
 pub mod Fits
 pub mod Pairs
 pub mod Planned
@@ -5,3 +6,4 @@ pub mod Puts
 pub mod Searches
 pub mod Seen
 pub mod Settled
+pub mod Stepped

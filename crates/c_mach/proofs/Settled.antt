@@ -336,7 +336,7 @@ failed-settled files d k =
     ∙ once files (suc (length d.world.script)) (record d { course = course.Failed }) (turned files d.world.script d turn.End) (turned files d.world.script d turn.End) refl refl refl
 
 -- over the newest frame
-runs-calm : (d : CState) (f : Frame) (fs : List Frame) → d.frames ≡ f ∷ fs → d.course ≡ course.Goes → is_asking f.doing ≡ false → outside d ≡ false
+pub runs-calm : (d : CState) (f : Frame) (fs : List Frame) → d.frames ≡ f ∷ fs → d.course ≡ course.Goes → is_asking f.doing ≡ false → outside d ≡ false
 runs-calm d f fs e k q = ap (outside_by d) k ∙ (ap none_runs e ∙ q)
 
 doing-settled : (files : List CFile) (d : CState) (f : Frame) (fs : List Frame) (q : Doing) → d.frames ≡ f ∷ fs → f.doing ≡ q → d.course ≡ course.Goes
