@@ -7,3 +7,4 @@ pub mod Searches
 pub mod Seen
 pub mod Settled
 pub mod Stepped
+pub mod Steps

@@ -115,7 +115,7 @@ NoFault (effect.Fault k) = ⊥
 NoFault _ = Unit {0}
 
 -- where there is no caller no result is handed to one
-abbrev NoHand : Effect → Type 0
+abbrev pub NoHand : Effect → Type 0
 NoHand (effect.Hand x v own l) = ⊥
 NoHand _ = Unit {0}
 
@@ -218,7 +218,7 @@ return-hands lock error o a to k v e =
     subst (λ o. NoHand (return_plan lock error o a to k v)) (sym e)
     (after-hands (return_fault lock a to k v) (result_plan error None a to v.value (lends k v)) (result-hands error a to v.value (lends k v)))
 
-plan-hands : (s : Scene) (st : CStmt) → s.caller ≡ None → NoHand (plan s st)
+pub plan-hands : (s : Scene) (st : CStmt) → s.caller ≡ None → NoHand (plan s st)
 plan-hands s (stmt.Assign t k) e = then-hands (operand_here s k) (assign_plan s t k) (assign-hands s t k)
 plan-hands s (stmt.Api x r ks) e =
     then-hands (operands_here s ks) (row_plan s.lock s.error s.places s.here x r)
@@ -240,7 +240,7 @@ plan-hands s (stmt.Return k) e =
     then-hands (operand_here s k) (return_plan s.lock s.error s.caller s.here (result_kind (function_here s).head) k)
     (λ v. return-hands s.lock s.error s.caller s.here (result_kind (function_here s).head) k v e)
 
-is-done : (o : Option Activation) (e : Effect) → NoFault e → (o ≡ None → NoHand e) → IsDone o e
+pub is-done : (o : Option Activation) (e : Effect) → NoFault e → (o ≡ None → NoHand e) → IsDone o e
 is-done o (effect.Fault k) f h = f
 is-done None (effect.Hand x v own l) f h = h refl
 is-done (Some g) (effect.Hand x v own l) f h = tt

@@ -1,4 +1,5 @@
 pub mod Applied
+pub mod Deciding
 pub mod Effects
 pub mod Lookups
 pub mod Moves

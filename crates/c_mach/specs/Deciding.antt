@@ -1,0 +1,79 @@
+-- What is decided before anything is changed, and what a step comes to.
+use Rattle.std.specs.Prelude.{◌≡◌, ℕ, Bool, true, false, not, List, [], ◌∷◌, ◌++◌, Option, Some, None, IsTrue, drop}
+use Rattle.c_state.specs.declared.space.Entry.{Entry}
+use Rattle.c_state.specs.declared.space.Event.{Event}
+use Rattle.c_state.specs.declared.tree.Line.{Line}
+use Rattle.c_state.specs.declared.state.FaultKind.TheVariants as fault
+use Rattle.c_state.specs.declared.state.Step.{Step}
+use Rattle.c_state.specs.declared.state.Step.TheVariants as step
+use Rattle.c_state.specs.declared.state.Doing.{Doing}
+use Rattle.c_state.specs.declared.state.Doing.TheVariants as doing
+use Rattle.c_state.specs.declared.state.Course.{Course}
+use Rattle.c_state.specs.declared.state.Course.TheVariants as course
+use Rattle.c_state.specs.Machine.{is_asking, Stepped, c_step}
+use Rattle.c_mach.specs.declared.parts.Activation.{Activation}
+use Rattle.c_mach.specs.declared.parts.Effect.{Effect}
+use Rattle.c_mach.specs.declared.parts.Effect.TheVariants as effect
+use Rattle.c_mach.specs.Lookups.{Next, Lines, NoLine, next_line}
+use Rattle.c_mach.specs.Plans.{Scene, function_here, plan}
+use Rattle.c_mach.specs.Applied.{Parts, Fixed, last_of, seen}
+use Rattle.c_mach.specs.Turns.{Stage}
+
+-- what the next line comes to: a body that ends without a return is stuck
+abbrev pub next_effect : Scene → Next → Effect
+next_effect s NoLine = effect.Fault fault.Stuck
+next_effect s (Lines st ls) = plan s st
+
+abbrev pub lines_after : Next → List Line
+lines_after NoLine = []
+lines_after (Lines st ls) = ls
+
+abbrev pub next_here : Scene → Next
+next_here s = next_line (drop s.here.line (function_here s).lines)
+
+-- what a frame comes to, which runs or waits
+abbrev pub doing_effect : Scene → Doing → Effect
+doing_effect s doing.Runs = next_effect s (next_here s)
+doing_effect s _ = effect.Fault fault.Stuck
+
+abbrev pub effect_here : Scene → Effect
+effect_here s = doing_effect s s.here.doing
+
+abbrev pub scene_at : Fixed → Parts → Activation → Scene
+scene_at x p a = record {
+  files = x.files;
+  places = p.places;
+  lock = x.lock;
+  error = p.error;
+  loans = p.loans;
+  here = a;
+  caller = last_of p.frames;
+}
+
+abbrev pub stage_at : Fixed → Parts → Stage
+stage_at x p = record {
+  files = x.files;
+  places = p.places;
+  lock = x.lock;
+  instances = x.instances;
+  views = x.views;
+  begun = p.begun;
+}
+
+-- the newest frame asks nothing, while the run goes on
+abbrev pub rests : Option Activation → Bool
+rests None = true
+rests (Some a) = not (is_asking a.doing)
+
+abbrev pub is_resting : Course → Option Activation → Bool
+is_resting course.Goes newest = rests newest
+is_resting _ newest = true
+
+-- what a step comes to: where memory is wanting, or it faults, nothing is changed
+abbrev pub step_of : Fixed → Parts → List Entry → List Event → Stepped
+step_of x p script ev = c_step x.files (seen x p script ev)
+
+abbrev pub IsStep : Fixed → Parts → List Entry → List Event → Step → Parts → List Event → Type 0
+IsStep x p script ev step.Memory q ew = (q ≡ p) × (ew ≡ ev)
+IsStep x p script ev (step.Fault k) q ew = (step_of x p script ev ≡ record { answer = step.Fault k; state = seen x p script ev }) × (q ≡ p) × (ew ≡ ev)
+IsStep x p script ev s q ew = step_of x p script ev ≡ record { answer = s; state = seen x q script ew }
