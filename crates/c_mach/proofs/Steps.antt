@@ -1,5 +1,5 @@
 -- A step is what is decided, and then what is changed.
-use Rattle.std.proofs.Common.{◌≡◌, ℕ, suc, List, [], ◌∷◌, ◌++◌, Bool, true, false, not, Option, Some, None, IsTrue, refl, sym, ap, ◌∙◌, map, drop, reverse, subst}
+use Rattle.std.proofs.Common.{◌≡◌, ℕ, suc, List, [], ◌∷◌, ◌++◌, Bool, true, false, not, Option, Some, None, IsTrue, refl, sym, ap, ◌∙◌, map, drop, reverse, subst, if◌then◌else◌}
 use Rattle.c_state.specs.declared.space.Entry.{Entry}
 use Rattle.c_state.specs.declared.space.Entry.TheVariants as entry
 use Rattle.c_state.specs.declared.space.Event.{Event}
@@ -18,6 +18,7 @@ use Rattle.c_state.specs.declared.state.Doing.{Doing}
 use Rattle.c_state.specs.declared.state.Doing.TheVariants as doing
 use Rattle.c_state.specs.declared.state.Course.{Course}
 use Rattle.c_state.specs.declared.state.Course.TheVariants as course
+use Rattle.c_state.specs.Objects.{read_objs}
 use Rattle.c_state.specs.State.{Frame, CState}
 use Rattle.c_state.specs.Statements.{Moved, Went, Over, Faulted, off, act, run_line}
 use Rattle.c_state.specs.Machine.{by_frame, by_frames, by_course, move, is_asking, none_runs, outside_by, outside, settle_for, settle, Stepped, over_answer, stepped, c_step}
@@ -27,7 +28,7 @@ use Rattle.c_mach.specs.declared.parts.Effect.{Effect}
 use Rattle.c_mach.specs.declared.parts.Effect.TheVariants as effect
 use Rattle.c_mach.specs.declared.parts.Turn.{Turn}
 use Rattle.c_mach.specs.declared.parts.Turn.TheVariants as turn
-use Rattle.c_mach.specs.Views.{function_at, function_there, found_at, frame_view, frames_view}
+use Rattle.c_mach.specs.Views.{function_at, function_there, found_at, found_with, frame_view, frames_view}
 use Rattle.c_mach.specs.Lookups.{Next, Lines, NoLine, next_line, standing_entered, standing_next}
 use Rattle.c_mach.specs.Plans.{Scene, plan}
 use Rattle.c_mach.specs.Effects.{effected, turned}
@@ -105,3 +106,132 @@ pub decided-move : (x : Fixed) (p : Parts) (script : List Entry) (ev : List Even
 decided-move x p script ev below top i e n t d =
     moved-by x p script ev below top i top.doing d.frames d.goes refl d.asks d.lines
     ∙ ap (effected x.files (seen x (without p below) script ev) (frame_view x.files (at_next top i)) (frames_view x.files below)) (sym d.effect)
+
+-- the newest frame runs where its effect is no fault
+runs-of : (s : Scene) (d : Doing) → NoFault (doing_effect s d) → d ≡ doing.Runs
+runs-of s doing.Runs h = refl
+runs-of s (doing.Waits x) h = absurd h
+runs-of s (doing.Asks o r x) h = absurd h
+
+next-hands : (s : Scene) (q : Next) → s.caller ≡ None → NoHand (next_effect s q)
+next-hands s NoLine e = tt
+next-hands s (Lines st ls) e = plan-hands s st e
+
+doing-hands : (s : Scene) (d : Doing) → s.caller ≡ None → NoHand (doing_effect s d)
+doing-hands s doing.Runs e = next-hands s (next_here s) e
+doing-hands s (doing.Waits x) e = tt
+doing-hands s (doing.Asks o r x) e = tt
+
+-- the parts after a step
+abbrev pub parts_after : Parts → List Activation → Activation → ℕ → Effect → ℕ → Turn → Parts
+parts_after p below top i e n t = moved_on n t (applied (without p below) (at_next top i) e)
+
+abbrev pub events_after : List Event → Effect → Turn → List Event
+events_after ev e t = (ev ++ effect_events e) ++ turn_events t
+
+-- where it is no fault, the move and what settling makes of it
+pub record Goes (x : Fixed) (p : Parts) (script : List Entry) (ev : List Event) (q : Parts) (ew : List Event) : Type 0 where
+  pub between : CState
+  pub moves : move x.files (seen x p script ev) ≡ Went between
+  pub settles : settle x.files between ≡ seen x q script ew
+
+pub decided-goes : (x : Fixed) (p : Parts) (script : List Entry) (ev : List Event) (below : List Activation) (top : Activation) (i : ℕ) (e : Effect) (n : ℕ) (t : Turn)
+    → Decides x p script below top i e n t → NoFault e → Goes x p script ev (parts_after p below top i e n t) (events_after ev e t)
+decided-goes x p script ev below top i e n t d f =
+    let s = scene_at x (without p below) top in
+    let q = applied (without p below) (at_next top i) e in
+    let c = seen x (without p below) script ev in
+    let d1 = seen x q script (ev ++ effect_events e) in
+    let r : top.doing ≡ doing.Runs = runs-of s top.doing (subst NoFault d.effect f) in
+    let done = is-done (last_of below) e f (λ h. subst NoHand (sym d.effect) (doing-hands s top.doing h)) in
+    let went : effected x.files c (frame_view x.files (at_next top i)) (frames_view x.files below) e ≡ Went d1 = effect-seen x (without p below) (at_next top i) e script ev done in
+    record {
+      between = d1;
+      moves = decided-move x p script ev below top i e n t d ∙ went;
+      settles =
+          effect-settled x.files c d1 (frame_view x.files (at_next top i)) (frames_view x.files below) (last_of below) e d.goes r (below-is x.files below (last_of below) refl) went
+          ∙ (ap (λ (g : Go). turned x.files g.rest d1 g.turn) (sym d.turn)
+          ∙ turn-seen x q n t script (ev ++ effect_events e));
+    }
+
+-- steps after settling
+pub faulting : (files : List CFile) (c d : CState) (k : FaultKind) → settle files c ≡ d → move files d ≡ Faulted k → c_step files c ≡ record { answer = step.Fault k; state = c }
+faulting files c d k s m = ap (λ y. stepped files c (move files y)) s ∙ ap (stepped files c) m
+
+pub going : (files : List CFile) (c d between t : CState) → settle files c ≡ d → move files d ≡ Went between → settle files between ≡ t → c_step files c ≡ record { answer = step.Went; state = t }
+going files c d between t s m w = ap (λ y. stepped files c (move files y)) s ∙ (ap (stepped files c) m ∙ ap (λ y. record { answer = step.Went; state = y }) w)
+
+pub ending : (files : List CFile) (c d : CState) → settle files c ≡ d → move files d ≡ Over → c_step files c ≡ record { answer = over_answer d.course; state = d }
+ending files c d s m =
+    ap (λ y. stepped files c (move files y)) s ∙ (ap (stepped files c) m ∙ ap (λ (y : CState). record { answer = over_answer y.course; state = y }) s)
+
+-- the newest frame asks nothing where it isn't the outside's turn
+pub resting-is : (x : Fixed) (p : Parts) (script : List Entry) (ev : List Event) → outside (seen x p script ev) ≡ false → IsTrue (is_resting p.course (last_of p.frames))
+resting-is x p script ev o = by_course_is p.course refl
+  where
+    by_frame_is : (q : Bool) → q ≡ false → IsTrue (not q)
+    by_frame_is true e = cc
+    by_frame_is false e = refl
+
+    by_last : (a : Option Activation) → last_of p.frames ≡ a → none_runs (frames_view x.files p.frames) ≡ false → IsTrue (rests a)
+    by_last None e h = refl
+    by_last (Some g) e h =
+        let b = below-is x.files p.frames (Some g) e in
+        by_frame_is (is_asking g.doing) (sym (ap none_runs b.1) ∙ h)
+
+    by_course_is : (k : Course) → p.course ≡ k → IsTrue (is_resting k (last_of p.frames))
+    by_course_is course.Goes e = by_last (last_of p.frames) refl (sym (ap (outside_by (seen x p script ev)) e) ∙ o)
+    by_course_is course.Failed e = refl
+    by_course_is course.Ended e = refl
+    by_course_is course.Stopped e = refl
+
+-- after a step the newest frame asks nothing
+pub goes-rests : (x : Fixed) (p : Parts) (script : List Entry) (ev : List Event) (q : Parts) (ew : List Event) → Goes x p script ev q ew → IsTrue (is_resting q.course (last_of q.frames))
+goes-rests x p script ev q ew g = resting-is x q script ew (ap outside (sym g.settles) ∙ settled_calm x.files g.between)
+
+-- where no function runs, an initialisation begins, a function is entered, or the run ends
+abbrev pub IsStart : Turn → Type 0
+IsStart (turn.Begin name k b) = b.doing ≡ doing.Runs
+IsStart (turn.Enter callee args b) = b.doing ≡ doing.Runs
+IsStart turn.End = Unit {0}
+IsStart _ = ⊥
+
+enter-start : (s : Stage) (callee : Callee) (args : List Obj) (o : Option Standing) → is_found (found_at s.files o) ≡ true → IsStart (enter_or s callee args turn.Nothing o)
+enter-start s callee args None e = cc
+enter-start s callee args (Some at) e = by_function (function_there s.files at.file at.item) e
+  where
+    by_function : (f : Option CFunction) → is_found (found_with at.file f) ≡ true → IsStart (enter_else s callee args turn.Nothing at f)
+    by_function None e = cc
+    by_function (Some fn) e = refl
+
+enter-test : (s : Stage) (callee : Callee) (args : List Obj) (es : List Entry) (b : Bool) → is_found (found_at s.files (standing_entered s.files s.places callee)) ≡ b
+    → IsStart (top_turn s (fitting s.files s.places es)) → IsStart (top_turn s (if b then entry.Enter callee args ∷ es else fitting s.files s.places es))
+enter-test s callee args es true e h = enter-start s callee (read_objs s.instances s.views args) (standing_entered s.files s.places callee) e
+enter-test s callee args es false e h = h
+
+top-start : (s : Stage) (es : List Entry) → IsStart (top_turn s (fitting s.files s.places es))
+top-start s [] = tt
+top-start s (entry.Enter callee args ∷ es) =
+    enter-test s callee args es (is_found (found_at s.files (standing_entered s.files s.places callee))) refl (top-start s es)
+top-start s (entry.OkNode a ∷ es) = top-start s es
+top-start s (entry.Num a ∷ es) = top-start s es
+top-start s (entry.Raise a ∷ es) = top-start s es
+top-start s (entry.Missing ∷ es) = top-start s es
+top-start s (entry.Made ∷ es) = top-start s es
+top-start s (entry.View a ∷ es) = top-start s es
+top-start s (entry.New a b ∷ es) = top-start s es
+top-start s (entry.Get a b ∷ es) = top-start s es
+top-start s (entry.Set a b c ∷ es) = top-start s es
+top-start s (entry.Unset a b ∷ es) = top-start s es
+top-start s (entry.Die a ∷ es) = top-start s es
+
+begin_there-start : (s : Stage) (es : List Entry) (at : Standing) (f : Option CFunction) → IsStart (begin_there s es at f).turn
+begin_there-start s es at None = top-start s es
+begin_there-start s es at (Some fn) = refl
+
+begin_at-start : (s : Stage) (es : List Entry) (o : Option Standing) → IsStart (begin_at s es o).turn
+begin_at-start s es None = top-start s es
+begin_at-start s es (Some at) = begin_there-start s es at (function_there s.files at.file at.item)
+
+pub idle-start : (s : Stage) (es : List Entry) → IsStart (idle_go s es).turn
+idle-start s es = begin_at-start s es (standing_next s.files s.begun)
