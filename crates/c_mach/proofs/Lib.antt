@@ -3,6 +3,7 @@ pub mod Fits
 pub mod Pairs
 pub mod Planned
 pub mod Puts
+pub mod Running
 pub mod Searches
 pub mod Seen
 pub mod Settled

@@ -31,10 +31,14 @@ lines_after (Lines st ls) = ls
 abbrev pub next_here : Scene → Next
 next_here s = next_line (drop s.here.line (function_here s).lines)
 
+-- what a statement comes to in a frame, which runs or waits
+abbrev pub running_effect : Doing → Effect → Effect
+running_effect doing.Runs e = e
+running_effect _ e = effect.Fault fault.Stuck
+
 -- what a frame comes to, which runs or waits
 abbrev pub doing_effect : Scene → Doing → Effect
-doing_effect s doing.Runs = next_effect s (next_here s)
-doing_effect s _ = effect.Fault fault.Stuck
+doing_effect s d = running_effect d (next_effect s (next_here s))
 
 abbrev pub effect_here : Scene → Effect
 effect_here s = doing_effect s s.here.doing

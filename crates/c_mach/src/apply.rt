@@ -12,7 +12,7 @@ use c_state::{ApiRow, Cell, Course, Doing, Event, Obj, Op, Place, Spot, Value, V
 use sqlite_items::Items;
 
 /// Puts an item at the end, where there is room for it.
-fn put<T: Drop>(items: &mut Vec<T>, item: T)
+pub fn put<T: Drop>(items: &mut Vec<T>, item: T)
     requires { vec_len items.old < vec_capacity items.old }
     ensures items { items.new.items ≡ items.old.items ++ item ∷ [] }
     ensures len { vec_len items.new ≡ vec_len items.old + 1 }

@@ -14,5 +14,6 @@ mod plans;
 mod readings;
 mod scenes;
 mod statements;
+mod step;
 
 pub use error::OutOfMemory;

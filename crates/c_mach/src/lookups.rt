@@ -235,6 +235,7 @@ pub fn find_entered(files: &[CFile], places: &[Items<Spot>], callee: &Callee) ->
 }
 
 /// What the next line is in a body: its statement, and the number of the line after it.
+#[derive(Clone, Copy)]
 pub struct Following<'a> {
     pub statement: &'a CStmt,
     pub after: usize,

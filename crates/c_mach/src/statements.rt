@@ -1,17 +1,20 @@
 //! What a statement comes to, from the parts of the machine that it reads.
-ghost use Rattle.std.specs.Prelude.{◌≡◌, ℕ, Option, Some, None, IfOk, List};
+ghost use Rattle.std.specs.Prelude.{◌≡◌, drop, ℕ, Option, Some, None, IfOk, List};
 ghost use Rattle.std.specs.Option.{option_copied};
 ghost use Rattle.c_state.specs.declared.state.Reading.{Reading};
 ghost use Rattle.c_state.specs.Reads.{result_kind};
 ghost use Rattle.c_mach.specs.Views.{function_at};
 ghost use Rattle.c_mach.specs.Lookups.{label_line};
 ghost use Rattle.c_mach.specs.Plans.{Scene, function_here, operand_here, operands_here, read_then, assign_plan, row_plan, call_plan, gain_plan, loss_plan, branch_plan, jump_plan, return_plan, plan};
+ghost use Rattle.c_mach.specs.Deciding.{running_effect, effect_here, lines_after, next_here};
 ghost use Rattle.c_mach.specs.Scenes.{scene_of};
 ghost use Rattle.c_state.specs.declared.tree.CStmt.TheVariants as stmt;
 
 use crate::OutOfMemory;
 use crate::entering::{call_plan, result_kind};
-use crate::lookups::{find_function, find_label, function_there, items_at, spots_at};
+use crate::lookups::{
+    find_function, find_label, find_statement, function_there, items_at, spots_at,
+};
 use crate::operands::{find_cell, find_spot, operand};
 use crate::parts::{Activation, Effect};
 use crate::plans::{
@@ -20,13 +23,13 @@ use crate::plans::{
 };
 use crate::scenes::Scene;
 use c_state::{
-    ApiRow, CFile, CStmt, CValue, Comparison, FaultKind, FunctionName, Kind, Line, Obj, Reading,
-    Spot, Target, Variable,
+    ApiRow, CFile, CStmt, CValue, Comparison, Doing, FaultKind, FunctionName, Kind, Line, Obj,
+    Reading, Spot, Target, Variable,
 };
 use sqlite_items::Items;
 use std::alloc::Global;
 
-type Planned = Result<Effect, OutOfMemory>;
+type Plan = Result<Effect, OutOfMemory>;
 
 fn lines_here<'a>(files: &'a [CFile], here: &Activation) -> &'a [Line]
     ensures { result.now ≡ (function_at files.now here.now.file here.now.item).lines }
@@ -74,7 +77,7 @@ fn read_each(scene: &Scene<'_>, ks: &[CValue]) -> Result<Option<Items<Reading>>,
     )
 }
 
-fn assign_read(scene: &Scene<'_>, target: Target, k: &CValue, v: &Reading) -> Planned
+fn assign_read(scene: &Scene<'_>, target: Target, k: &CValue, v: &Reading) -> Plan
     ensures { IfOk result (λ e. e ≡ assign_plan (scene_of scene.now) target k.now v.now) }
 {
     let alloc = scene.alloc;
@@ -98,7 +101,7 @@ fn assign_read(scene: &Scene<'_>, target: Target, k: &CValue, v: &Reading) -> Pl
     }
 }
 
-fn assign(scene: &Scene<'_>, target: Target, k: &CValue) -> Planned
+fn assign(scene: &Scene<'_>, target: Target, k: &CValue) -> Plan
     ensures { IfOk result (λ e. e ≡ read_then (operand_here (scene_of scene.now) k.now) (assign_plan (scene_of scene.now) target k.now)) }
 {
     match read(scene, k)? {
@@ -107,7 +110,7 @@ fn assign(scene: &Scene<'_>, target: Target, k: &CValue) -> Planned
     }
 }
 
-fn row(scene: &Scene<'_>, x: Option<Variable>, row: ApiRow, ks: &[CValue]) -> Planned
+fn row(scene: &Scene<'_>, x: Option<Variable>, row: ApiRow, ks: &[CValue]) -> Plan
     ensures { IfOk result (λ e. e ≡ plan (scene_of scene.now) (stmt.Api x row ks.now)) }
 {
     let Some(vs) = read_each(scene, ks)? else {
@@ -125,7 +128,7 @@ fn row(scene: &Scene<'_>, x: Option<Variable>, row: ApiRow, ks: &[CValue]) -> Pl
     )
 }
 
-fn call(scene: &Scene<'_>, x: Option<Variable>, name: &FunctionName, ks: &[CValue]) -> Planned
+fn call(scene: &Scene<'_>, x: Option<Variable>, name: &FunctionName, ks: &[CValue]) -> Plan
     ensures { IfOk result (λ e. e ≡ plan (scene_of scene.now) (stmt.Call x name.now ks.now)) }
 {
     let Some(vs) = read_each(scene, ks)? else {
@@ -144,7 +147,7 @@ fn call(scene: &Scene<'_>, x: Option<Variable>, name: &FunctionName, ks: &[CValu
     )
 }
 
-fn increment(scene: &Scene<'_>, k: &CValue) -> Planned
+fn increment(scene: &Scene<'_>, k: &CValue) -> Plan
     ensures { IfOk result (λ e. e ≡ plan (scene_of scene.now) (stmt.Incref k.now)) }
 {
     match read(scene, k)? {
@@ -161,7 +164,7 @@ fn increment(scene: &Scene<'_>, k: &CValue) -> Planned
     }
 }
 
-fn decrement(scene: &Scene<'_>, k: &CValue) -> Planned
+fn decrement(scene: &Scene<'_>, k: &CValue) -> Plan
     ensures { IfOk result (λ e. e ≡ plan (scene_of scene.now) (stmt.Decref k.now)) }
 {
     match read(scene, k)? {
@@ -176,7 +179,7 @@ fn branch_read(
     comparison: Comparison,
     b: &CValue,
     label: u32,
-) -> Planned
+) -> Plan
     ensures { IfOk result (λ e. e ≡ read_then (operand_here (scene_of scene.now) b.now)
         (λ w. branch_plan scene.now.lock left.entry.operand.now left.entry.reading.now comparison b.now w (label_line (function_here (scene_of scene.now)).lines label))) }
 {
@@ -191,7 +194,7 @@ fn branch_read(
     branch_plan(scene.alloc, scene.lock, left, comparison, right, line)
 }
 
-fn branch(scene: &Scene<'_>, a: &CValue, comparison: Comparison, b: &CValue, label: u32) -> Planned
+fn branch(scene: &Scene<'_>, a: &CValue, comparison: Comparison, b: &CValue, label: u32) -> Plan
     ensures { IfOk result (λ e. e ≡ plan (scene_of scene.now) (stmt.GotoIf a.now comparison b.now label)) }
 {
     let Some(v) = read(scene, a)? else {
@@ -211,7 +214,7 @@ fn jump(scene: &Scene<'_>, label: u32) -> Effect
     jump_plan(scene.alloc, line)
 }
 
-fn give_back(scene: &Scene<'_>, k: &CValue) -> Planned
+fn give_back(scene: &Scene<'_>, k: &CValue) -> Plan
     ensures { IfOk result (λ e. e ≡ plan (scene_of scene.now) (stmt.Return k.now)) }
 {
     let Some(v) = read(scene, k)? else {
@@ -230,7 +233,7 @@ fn give_back(scene: &Scene<'_>, k: &CValue) -> Planned
 }
 
 /// What a statement comes to.
-pub fn plan(scene: &Scene<'_>, statement: &CStmt) -> Planned
+pub fn plan(scene: &Scene<'_>, statement: &CStmt) -> Plan
     ensures { IfOk result (λ e. e ≡ plan (scene_of scene.now) statement.now) }
 {
     match statement {
@@ -242,5 +245,41 @@ pub fn plan(scene: &Scene<'_>, statement: &CStmt) -> Planned
         CStmt::GotoIf(a, comparison, b, label) => branch(scene, a, *comparison, b, *label),
         CStmt::Goto(label) => Ok(jump(scene, *label)),
         CStmt::Return(k) => give_back(scene, k),
+    }
+}
+
+/// The number of the line after a frame's next statement, and what that statement comes to.
+#[derive(Drop)]
+pub struct Planned {
+    pub line: usize,
+    pub effect: Effect,
+}
+
+#[tactic(auto, using(crate::proofs::Running::stuck))]
+/// What a frame comes to, which runs or waits: a body that ends without a return is stuck.
+pub fn plan_here(scene: &Scene<'_>) -> Result<Planned, OutOfMemory>
+    ensures effect { IfOk result (λ d. d.effect ≡ effect_here (scene_of scene.now)) }
+    ensures line { IfOk result (λ d. drop d.line (function_here (scene_of scene.now)).lines ≡ lines_after (next_here (scene_of scene.now))) }
+{
+    let lines = lines_here(scene.files, scene.here);
+    match find_statement(lines, scene.here.line) {
+        None => Ok(Planned {
+            line: lines.len(),
+            effect: Effect::Fault(FaultKind::Stuck),
+        }),
+        Some(next) => Ok(Planned {
+            line: next.after,
+            effect: running(scene, next.statement)?,
+        }),
+    }
+}
+
+// What a statement of the frame comes to, if the frame runs.
+fn running(scene: &Scene<'_>, statement: &CStmt) -> Plan
+    ensures { IfOk result (λ e. e ≡ running_effect scene.now.here.now.doing (plan (scene_of scene.now) statement.now)) }
+{
+    match &scene.here.doing {
+        Doing::Runs => plan(scene, statement),
+        _ => Ok(Effect::Fault(FaultKind::Stuck)),
     }
 }
