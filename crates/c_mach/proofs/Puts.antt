@@ -1,5 +1,5 @@
 -- A write to the first cell or spot of a name.
-use Rattle.std.proofs.Common.{◌≡◌, ℕ, zero, suc, ◌<◌, Bool, true, Option, Some, List, [], ◌∷◌, ◌++◌, take, drop, set, length, get_or, refl, sym, ap, ◌∙◌, if◌then◌else◌, arith}
+use Rattle.std.proofs.Common.{◌≡◌, ℕ, zero, suc, ◌<◌, Bool, true, Option, Some, List, [], ◌∷◌, ◌++◌, take, drop, set, length, get_or, slice_get, ◌-◌, refl, sym, ap, ◌∙◌, if◌then◌else◌, arith}
 use Rattle.std.proofs.Math.Seq.{drop-cons}
 use Rattle.c_state.specs.declared.tree.Variable.{Variable}
 use Rattle.c_state.specs.declared.tree.Place.{Place}
@@ -41,4 +41,11 @@ last_of-snoc [] a = refl
 last_of-snoc (x ∷ []) a = refl
 last_of-snoc (x ∷ (y ∷ ys)) a = last_of-snoc (y ∷ ys) a
 
-pub ruleset lasts = (on_last-snoc, last_of-snoc)
+pub last-get : (xs : List Activation) → slice_get xs (length xs - 1) ≡ last_of xs
+last-get [] = refl
+last-get (x ∷ []) = refl
+last-get (x ∷ (y ∷ ys)) =
+    let e : length (x ∷ (y ∷ ys)) - 1 ≡ suc (length (y ∷ ys) - 1) = omega arith in
+    ap (slice_get (x ∷ (y ∷ ys))) e ∙ last-get (y ∷ ys)
+
+pub ruleset lasts = (on_last-snoc, last_of-snoc, last-get)

@@ -54,6 +54,7 @@ use Rattle.c_mach.specs.Plans.{checked, write_fault, own_after_store, store_faul
 use Rattle.c_mach.specs.Effects.{effected, delivered, delivered_to, turned}
 use Rattle.c_mach.specs.Turns.{Stage, Go, is_found, fitting, enter_else, enter_or, top_entry, top_turn, begin_there, begin_at, idle_go, effect_go}
 use Rattle.c_mach.specs.Applied.{Parts, Fixed, applied, effect_events, answered_to, given, runs, on_last, delivered_in, moved_on, turn_events, last_of, seen}
+use Rattle.c_mach.specs.Deciding.{NoFault}
 use Rattle.c_mach.proofs.Puts.{on_last-snoc}
 use Rattle.c_mach.proofs.Planned.{IsBelow, scene_from, planned}
 use Rattle.c_mach.proofs.Settled.{stage_from, calm, Settles, idle-settled, failed-settled, effect-settled, runs-calm}
@@ -109,10 +110,6 @@ turn-seen x p n (turn.Answer a to d) script ev =
 turn-seen x p n (turn.Enter callee args b) script ev =
     ap (λ fs. record (seen x (record p { taken = n }) script (ev ++ event.Enter callee args ∷ [])) { frames = fs }) (sym (view-above x.files p.frames b))
 turn-seen x p n (turn.Begin name k b) script ev = refl
-
-abbrev pub NoFault : Effect → Type 0
-NoFault (effect.Fault k) = ⊥
-NoFault _ = Unit {0}
 
 -- where there is no caller no result is handed to one
 abbrev pub NoHand : Effect → Type 0

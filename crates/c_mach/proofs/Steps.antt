@@ -1,5 +1,5 @@
 -- A step is what is decided, and then what is changed.
-use Rattle.std.proofs.Common.{◌≡◌, ℕ, suc, List, [], ◌∷◌, ◌++◌, Bool, true, false, not, Option, Some, None, IsTrue, refl, sym, ap, ◌∙◌, map, drop, reverse, subst, if◌then◌else◌}
+use Rattle.std.proofs.Common.{◌≡◌, suc, List, [], ◌∷◌, ◌++◌, Bool, ℕ, true, false, not, Option, Some, None, IsTrue, refl, sym, ap, ◌∙◌, map, drop, reverse, subst, length, if◌then◌else◌}
 use Rattle.c_state.specs.declared.space.Entry.{Entry}
 use Rattle.c_state.specs.declared.space.Entry.TheVariants as entry
 use Rattle.c_state.specs.declared.space.Event.{Event}
@@ -34,13 +34,13 @@ use Rattle.c_mach.specs.Plans.{Scene, plan}
 use Rattle.c_mach.specs.Effects.{effected, turned}
 use Rattle.c_mach.specs.Turns.{Stage, Go, go, is_found, fitting, rest_of, enter_else, enter_or, top_entry, top_turn, top_go, begin_there, begin_at, idle_go, effect_go}
 use Rattle.c_mach.specs.Applied.{Parts, Fixed, applied, effect_events, moved_on, turn_events, last_of, seen}
-use Rattle.c_mach.specs.Deciding.{next_effect, lines_after, next_here, doing_effect, effect_here, scene_at, stage_at, rests, is_resting, step_of, IsStep}
+use Rattle.c_mach.specs.Deciding.{next_effect, lines_after, next_here, doing_effect, effect_here, scene_at, stage_at, rests, is_resting, step_of, NoFault, finished, finished_events, started, Starts, IsDecided, IsStep}
 use Rattle.c_mach.proofs.Planned.{IsBelow, planned}
 use Rattle.c_mach.proofs.Settled.{calm, idle-settled, failed-settled, effect-settled, runs-calm}
 use Rattle.c_mach.proofs.Calm.{settled_calm}
 use Rattle.c_mach.proofs.Seen.{view-above, last-split, last-none, effect-seen}
 use Rattle.c_mach.proofs.Puts.{last_of-snoc}
-use Rattle.c_mach.proofs.Stepped.{turn-seen, NoFault, plan-hands, is-done, NoHand}
+use Rattle.c_mach.proofs.Stepped.{turn-seen, plan-hands, is-done, NoHand}
 
 -- the frame below is that of the caller
 below-is : (files : List CFile) (xs : List Activation) (o : Option Activation) → last_of xs ≡ o → IsBelow files o (frames_view files xs)
@@ -235,3 +235,175 @@ begin_at-start s es (Some at) = begin_there-start s es at (function_there s.file
 
 pub idle-start : (s : Stage) (es : List Entry) → IsStart (idle_go s es).turn
 idle-start s es = begin_at-start s es (standing_next s.files s.begun)
+
+-- what a step comes to, from what was decided
+
+pub is-memory : (x : Fixed) (p : Parts) (script : List Entry) (ev : List Event) (q : Parts) (ew : List Event) → q ≡ p → ew ≡ ev → IsStep x p script ev step.Memory q ew
+unfolding IsStep
+is-memory x p script ev q ew a b = (a, b)
+
+top-calm : (x : Fixed) (p : Parts) (script : List Entry) (ev : List Event) (below : List Activation) (top : Activation) (i : ℕ) (e : Effect) (n : ℕ) (t : Turn)
+    → Decides x p script below top i e n t → settle x.files (seen x p script ev) ≡ seen x p script ev
+top-calm x p script ev below top i e n t d =
+    calm x.files (suc (suc (length (drop p.taken script)))) (seen x p script ev)
+    (runs-calm (seen x p script ev) (frame_view x.files top) (frames_view x.files below) (ap (frames_view x.files) d.frames ∙ view-above x.files below top) d.goes d.asks)
+
+pub is-fault : (x : Fixed) (p : Parts) (script : List Entry) (ev : List Event) (below : List Activation) (top : Activation) (i : ℕ) (e : Effect) (n : ℕ) (t : Turn) (k : FaultKind) (q : Parts) (ew : List Event)
+    → Decides x p script below top i e n t → e ≡ effect.Fault k → q ≡ p → ew ≡ ev → IsStep x p script ev (step.Fault k) q ew
+unfolding IsStep
+is-fault x p script ev below top i e n t k q ew d f a b = (
+  faulting x.files (seen x p script ev) (seen x p script ev) k (top-calm x p script ev below top i e n t d)
+      (decided-move x p script ev below top i e n t d
+      ∙ ap (effected x.files (seen x (without p below) script ev) (frame_view x.files (at_next top i)) (frames_view x.files below)) f),
+  a,
+  b,
+)
+
+pub is-went : (x : Fixed) (p : Parts) (script : List Entry) (ev : List Event) (below : List Activation) (top : Activation) (i : ℕ) (e : Effect) (n : ℕ) (t : Turn) (q : Parts) (ew : List Event)
+    → Decides x p script below top i e n t → NoFault e → q ≡ finished (without p below) top i e n t → ew ≡ finished_events ev e t → IsStep x p script ev step.Went q ew
+unfolding IsStep finished finished_events
+is-went x p script ev below top i e n t q ew d f a b =
+    let g = decided-goes x p script ev below top i e n t d f in
+    going x.files (seen x p script ev) (seen x p script ev) g.between (seen x q script ew) (top-calm x p script ev below top i e n t d) g.moves
+    (g.settles ∙ sym (ap (λ r. seen x r script ew) a ∙ ap (λ l. seen x (parts_after p below top i e n t) script l) b))
+
+pub went-rests : (x : Fixed) (p : Parts) (script : List Entry) (ev : List Event) (below : List Activation) (top : Activation) (i : ℕ) (e : Effect) (n : ℕ) (t : Turn) (q : Parts)
+    → Decides x p script below top i e n t → NoFault e → q ≡ finished (without p below) top i e n t → IsTrue (is_resting q.course (last_of q.frames))
+unfolding finished
+went-rests x p script ev below top i e n t q d f a =
+    let g = decided-goes x p script ev below top i e n t d f in
+    subst (λ (r : Parts). IsTrue (is_resting r.course (last_of r.frames))) (sym a) (goes-rests x p script ev (parts_after p below top i e n t) (events_after ev e t) g)
+
+-- the newest frame asks nothing while the machine rests
+pub asks-nothing : (k : Course) (xs below : List Activation) (top : Activation) → k ≡ course.Goes → xs ≡ below ++ top ∷ [] → IsTrue (is_resting k (last_of xs)) → is_asking top.doing ≡ false
+asks-nothing k xs below top g e r =
+    by_test (is_asking top.doing)
+    (subst (λ o. IsTrue (is_resting course.Goes o)) (ap last_of e ∙ last_of-snoc below top) (subst (λ j. IsTrue (is_resting j (last_of xs))) g r))
+  where
+    by_test : (b : Bool) → IsTrue (not b) → b ≡ false
+    by_test true h = cc
+    by_test false h = refl
+
+-- the newest frame put back
+pub put-back : (p n : Parts) (below : List Activation) (top : Activation) (xs : List Activation) → n ≡ without p below → xs ≡ n.frames ++ top ∷ [] → p.frames ≡ below ++ top ∷ [] → record n { frames = xs } ≡ p
+put-back p n below top xs a b c =
+    ap (λ (r : Parts). record r { frames = xs }) a
+    ∙ ap (λ l. record p { frames = l }) (b ∙ (ap (λ (r : Parts). r.frames ++ top ∷ []) a ∙ sym c))
+
+-- what was decided for the newest frame
+pub decides : (x : Fixed) (p : Parts) (script : List Entry) (below : List Activation) (top : Activation) (i : ℕ) (e : Effect) (n : ℕ) (t : Turn)
+    → p.frames ≡ below ++ top ∷ [] → p.course ≡ course.Goes → IsTrue (is_resting p.course (last_of p.frames)) → IsDecided x (without p below) script p.begun p.taken top i e n t
+    → Decides x p script below top i e n t
+unfolding IsDecided
+decides x p script below top i e n t f g r d = record {
+  frames = f;
+  goes = g;
+  asks = asks-nothing p.course p.frames below top g f r;
+  lines = d.1;
+  effect = d.0;
+  turn = d.2;
+}
+
+-- where no frame runs
+
+starts-decides : (x : Fixed) (p : Parts) (script : List Entry) (begun taken : ℕ) (a : Activation) (i : ℕ) (e : Effect) (n : ℕ) (t : Turn)
+    → p.frames ≡ [] → p.course ≡ course.Goes → is_asking a.doing ≡ false → IsDecided x p script begun taken a i e n t
+    → Decides x (started p begun taken a) script [] a i e n t
+unfolding IsDecided
+starts-decides x p script begun taken a i e n t f g h d = record {
+  frames = refl;
+  goes = g;
+  asks = h;
+  lines = d.1;
+  effect = subst (λ xs. e ≡ effect_here (scene_at x (record p { frames = xs }) a)) f d.0;
+  turn = subst (λ xs. record { turn = t; rest = drop n script } ≡ effect_go (record (stage_at x p) { begun = begun }) a.own (last_of xs) (drop taken script) e) f d.2;
+}
+
+pub start-fault : (x : Fixed) (p : Parts) (script : List Entry) (ev : List Event) (event : Event) (begun taken : ℕ) (a : Activation) (i : ℕ) (e : Effect) (n : ℕ) (t : Turn) (k : FaultKind) (q : Parts) (ew : List Event)
+    → p.frames ≡ [] → p.course ≡ course.Goes → Starts x p script ev event a begun taken → IsDecided x p script begun taken a i e n t → e ≡ effect.Fault k → q ≡ p → ew ≡ ev
+    → IsStep x p script ev (step.Fault k) q ew
+unfolding IsStep Starts
+start-fault x p script ev event begun taken a i e n t k q ew f g s d z u v = (
+  faulting x.files (seen x p script ev) (seen x (started p begun taken a) script (ev ++ event ∷ [])) k s.0
+      (decided-move x (started p begun taken a) script (ev ++ event ∷ []) [] a i e n t (starts-decides x p script begun taken a i e n t f g s.1 d)
+      ∙ ap (effected x.files (seen x (without (started p begun taken a) []) script (ev ++ event ∷ [])) (frame_view x.files (at_next a i)) []) z),
+  u,
+  v,
+)
+
+pub start-went : (x : Fixed) (p : Parts) (script : List Entry) (ev : List Event) (event : Event) (begun taken : ℕ) (a : Activation) (i : ℕ) (e : Effect) (n : ℕ) (t : Turn) (q : Parts) (ew : List Event)
+    → p.frames ≡ [] → p.course ≡ course.Goes → Starts x p script ev event a begun taken → IsDecided x p script begun taken a i e n t → NoFault e
+    → q ≡ finished (without (started p begun taken a) []) a i e n t → ew ≡ finished_events (ev ++ event ∷ []) e t → IsStep x p script ev step.Went q ew
+unfolding IsStep Starts finished finished_events
+start-went x p script ev event begun taken a i e n t q ew f g s d z u v =
+    let w = decided-goes x (started p begun taken a) script (ev ++ event ∷ []) [] a i e n t (starts-decides x p script begun taken a i e n t f g s.1 d) z in
+    going x.files (seen x p script ev) (seen x (started p begun taken a) script (ev ++ event ∷ [])) w.between (seen x q script ew) s.0 w.moves
+    (w.settles ∙ sym (ap (λ r. seen x r script ew) u ∙ ap (λ l. seen x (parts_after (started p begun taken a) [] a i e n t) script l) v))
+
+pub start-rests : (x : Fixed) (p : Parts) (script : List Entry) (ev : List Event) (event : Event) (begun taken : ℕ) (a : Activation) (i : ℕ) (e : Effect) (n : ℕ) (t : Turn) (q : Parts)
+    → p.frames ≡ [] → p.course ≡ course.Goes → Starts x p script ev event a begun taken → IsDecided x p script begun taken a i e n t → NoFault e
+    → q ≡ finished (without (started p begun taken a) []) a i e n t → IsTrue (is_resting q.course (last_of q.frames))
+unfolding Starts finished
+start-rests x p script ev event begun taken a i e n t q f g s d z u =
+    let w = decided-goes x (started p begun taken a) script (ev ++ event ∷ []) [] a i e n t (starts-decides x p script begun taken a i e n t f g s.1 d) z in
+    subst (λ (r : Parts). IsTrue (is_resting r.course (last_of r.frames))) (sym u)
+    (goes-rests x (started p begun taken a) script (ev ++ event ∷ []) (parts_after (started p begun taken a) [] a i e n t) (events_after (ev ++ event ∷ []) e t) w)
+
+-- the first turn
+first-settled : (x : Fixed) (p : Parts) (script : List Entry) (ev : List Event) (n : ℕ) (t : Turn) → p.frames ≡ [] → p.course ≡ course.Goes
+    → record { turn = t; rest = drop n script } ≡ idle_go (stage_at x p) (drop p.taken script)
+    → settle x.files (seen x p script ev) ≡ seen x (moved_on n t p) script (ev ++ turn_events t)
+first-settled x p script ev n t f g s =
+    idle-settled x.files (seen x p script ev) (ap (frames_view x.files) f) g
+    ∙ (ap (λ (y : Go). turned x.files y.rest (seen x p script ev) y.turn) (sym s) ∙ turn-seen x p n t script ev)
+
+first-start : (x : Fixed) (p : Parts) (script : List Entry) (n : ℕ) (t : Turn) → record { turn = t; rest = drop n script } ≡ idle_go (stage_at x p) (drop p.taken script) → IsStart t
+first-start x p script n t s = subst (λ (y : Go). IsStart y.turn) (sym s) (idle-start (stage_at x p) (drop p.taken script))
+
+pub starts-begin : (x : Fixed) (p : Parts) (script : List Entry) (ev : List Event) (n : ℕ) (name : List ℕ) (k : ℕ) (b : Activation) → p.frames ≡ [] → p.course ≡ course.Goes
+    → record { turn = turn.Begin name k b; rest = drop n script } ≡ idle_go (stage_at x p) (drop p.taken script)
+    → Starts x p script ev (event.Init name) b k n
+unfolding Starts
+starts-begin x p script ev n name k b f g s =
+    (first-settled x p script ev n (turn.Begin name k b) f g s, ap is_asking (first-start x p script n (turn.Begin name k b) s))
+
+pub starts-enter : (x : Fixed) (p : Parts) (script : List Entry) (ev : List Event) (n : ℕ) (callee : Callee) (args : List Obj) (b : Activation) → p.frames ≡ [] → p.course ≡ course.Goes
+    → record { turn = turn.Enter callee args b; rest = drop n script } ≡ idle_go (stage_at x p) (drop p.taken script)
+    → Starts x p script ev (event.Enter callee args) b p.begun n
+unfolding Starts
+starts-enter x p script ev n callee args b f g s = (
+  first-settled x p script ev n (turn.Enter callee args b) f g s
+      ∙ ap (λ xs. seen x (record p { taken = n; frames = xs ++ b ∷ [] }) script (ev ++ event.Enter callee args ∷ [])) f,
+  ap is_asking (first-start x p script n (turn.Enter callee args b) s),
+)
+
+pub first-ends : (x : Fixed) (p : Parts) (script : List Entry) (ev : List Event) (n : ℕ) (q : Parts) (ew : List Event) → p.frames ≡ [] → p.course ≡ course.Goes
+    → record { turn = turn.End; rest = drop n script } ≡ idle_go (stage_at x p) (drop p.taken script)
+    → q ≡ moved_on n turn.End p → ew ≡ ev ++ event.End ∷ [] → IsStep x p script ev step.Ended q ew
+unfolding IsStep
+first-ends x p script ev n q ew f g s u v =
+    ending x.files (seen x p script ev) (seen x (moved_on n turn.End p) script (ev ++ event.End ∷ [])) (first-settled x p script ev n turn.End f g s) refl
+    ∙ sym (ap (λ r. record { answer = step.Ended; state = seen x r script ew }) u ∙ ap (λ l. record { answer = step.Ended; state = seen x (moved_on n turn.End p) script l }) v)
+
+pub failed-ends : (x : Fixed) (p : Parts) (script : List Entry) (ev : List Event) (q : Parts) (ew : List Event) → p.course ≡ course.Failed
+    → q ≡ moved_on p.taken turn.End p → ew ≡ ev ++ event.End ∷ [] → IsStep x p script ev step.Ended q ew
+unfolding IsStep
+failed-ends x p script ev q ew g u v =
+    ending x.files (seen x p script ev) (seen x (moved_on p.taken turn.End p) script (ev ++ event.End ∷ [])) (failed-settled x.files (seen x p script ev) g ∙ turn-seen x p p.taken turn.End script ev) refl
+    ∙ sym (ap (λ r. record { answer = step.Ended; state = seen x r script ew }) u ∙ ap (λ l. record { answer = step.Ended; state = seen x (moved_on p.taken turn.End p) script l }) v)
+
+over-is : (x : Fixed) (p : Parts) (script : List Entry) (ev : List Event) (k : Course) → p.course ≡ k → outside_by (seen x p script ev) k ≡ false → by_course x.files (seen x p script ev) k ≡ Over
+    → c_step x.files (seen x p script ev) ≡ record { answer = over_answer k; state = seen x p script ev }
+over-is x p script ev k g o m =
+    ending x.files (seen x p script ev) (seen x p script ev)
+    (calm x.files (suc (suc (length (drop p.taken script)))) (seen x p script ev) (ap (outside_by (seen x p script ev)) g ∙ o))
+    (ap (by_course x.files (seen x p script ev)) g ∙ m)
+    ∙ ap (λ j. record { answer = over_answer j; state = seen x p script ev }) g
+
+pub ended-stays : (x : Fixed) (p : Parts) (script : List Entry) (ev : List Event) → p.course ≡ course.Ended → IsStep x p script ev step.Ended p ev
+unfolding IsStep
+ended-stays x p script ev g = over-is x p script ev course.Ended g refl refl
+
+pub stopped-stays : (x : Fixed) (p : Parts) (script : List Entry) (ev : List Event) → p.course ≡ course.Stopped → IsStep x p script ev step.Stopped p ev
+unfolding IsStep
+stopped-stays x p script ev g = over-is x p script ev course.Stopped g refl refl

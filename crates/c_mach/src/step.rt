@@ -1,11 +1,11 @@
 //! One step: what is decided while nothing is changed, and then what is changed while nothing can fail.
-ghost use Rattle.std.specs.Prelude.{◌≡◌, ◌++◌, ◌+◌, ◌≤◌, IfOk, OnOk, IsTrue, drop, vec_len, vec_capacity};
+ghost use Rattle.std.specs.Prelude.{◌≡◌, ◌++◌, ◌+◌, ◌<◌, ◌≤◌, MatchOption, IfOk, OnOk, IsTrue, drop, vec_len, vec_capacity};
 ghost use Rattle.std.specs.Option.{option_copied};
 ghost use Rattle.c_mach.specs.Views.{function_at};
 ghost use Rattle.c_mach.specs.Applied.{Parts, parts_of, Fixed, fixed, applied, effect_events, lends_of, moved_on, turn_events, last_of};
 ghost use Rattle.c_mach.specs.Turns.{effect_go};
 ghost use Rattle.c_mach.specs.Moves.{go_of};
-ghost use Rattle.c_mach.specs.Deciding.{lines_after, next_here, effect_here, scene_at, stage_at, is_resting, IsStep};
+ghost use Rattle.c_mach.specs.Deciding.{lines_after, next_here, effect_here, scene_at, stage_at, is_resting, NoFault, finished, finished_events, IsDecided, IsStep};
 
 use crate::OutOfMemory;
 use crate::apply::{apply_effect, apply_turn, put};
@@ -13,7 +13,7 @@ use crate::outside::{Move, Stage, effect_go, idle_go};
 use crate::parts::{Activation, Core, Effect, Turn};
 use crate::scenes::Scene;
 use crate::statements::plan_here;
-use c_state::{Course, Entry, Event, Step};
+use c_state::{Course, Entry, Event, FaultKind, Step};
 
 /// What is decided for a frame: the number of its next line, the effect of its statement, and the outside's move.
 #[derive(Drop)]
@@ -76,11 +76,7 @@ fn decide(
 fn newest(frames: &[Activation]) -> Option<&Activation>
     ensures { option_copied result ≡ last_of frames.now }
 {
-    let count = frames.len();
-    if count == 0 {
-        return None;
-    }
-    Some(&frames[count - 1])
+    frames.last()
 }
 
 fn lends_of(effect: &Effect) -> usize
