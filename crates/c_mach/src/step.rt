@@ -131,3 +131,96 @@ fn finish(core: &mut Core, events: &mut Vec<Event>, top: Activation, decision: D
     apply_effect(core, events, top, effect);
     apply_turn(core, events, turn, taken);
 }
+
+// The same, as one fact on the parts and one on the events.
+fn complete(core: &mut Core, events: &mut Vec<Event>, top: Activation, decision: Decision)
+    requires frames_room { vec_len core.old.frames + 3 ≤ vec_capacity core.old.frames }
+    requires loans_room { vec_len core.old.loans + lends_of decision.effect + 1 ≤ vec_capacity core.old.loans }
+    requires events_room { vec_len events.old + 2 ≤ vec_capacity events.old }
+    ensures parts { parts_of core.new ≡ finished (parts_of core.old) top decision.line decision.effect decision.next.taken decision.next.turn }
+    ensures events { events.new.items ≡ finished_events events.old.items decision.effect decision.next.turn }
+    ensures fixed { fixed core.new ≡ fixed core.old }
+{
+    finish(core, events, top, decision);
+}
+
+// The same, as one fact.
+fn decided(
+    core: &Core,
+    here: &Activation,
+    script: &[Entry],
+    begun: usize,
+    taken: usize,
+) -> Result<Decision, OutOfMemory>
+    ensures { IfOk result (λ d. IsDecided (fixed core.now) (parts_of core.now) script.now begun taken here.now d.line d.effect d.next.taken d.next.turn) }
+{
+    let decision = decide(core, here, script, begun, taken)?;
+    Ok(decision)
+}
+
+/// Decides for a frame, and makes room for what is decided.
+fn prepare(
+    core: &mut Core,
+    here: &Activation,
+    script: &[Entry],
+    events: &mut Vec<Event>,
+    begun: usize,
+    taken: usize,
+) -> Result<Decision, OutOfMemory>
+    ensures decided { IfOk result (λ d. IsDecided (fixed core.old) (parts_of core.old) script.now begun taken here.now d.line d.effect d.next.taken d.next.turn) }
+    ensures parts { parts_of core.new ≡ parts_of core.old }
+    ensures fixed { fixed core.new ≡ fixed core.old }
+    ensures frames_more { vec_capacity core.old.frames ≤ vec_capacity core.new.frames }
+    ensures frames_len { vec_len core.new.frames ≡ vec_len core.old.frames }
+    ensures events { events.new.items ≡ events.old.items }
+    ensures frames_room { OnOk result (vec_len core.new.frames + 3 ≤ vec_capacity core.new.frames) }
+    ensures loans_room { IfOk result (λ d. vec_len core.new.loans + lends_of d.effect + 1 ≤ vec_capacity core.new.loans) }
+    ensures events_room { OnOk result (vec_len events.new + 3 ≤ vec_capacity events.new) }
+{
+    let decision = decided(core, here, script, begun, taken)?;
+    make_room(core, events, lends_of(&decision.effect))?;
+    Ok(decision)
+}
+
+fn fault_of(effect: &Effect) -> Option<FaultKind>
+    ensures { MatchOption result (NoFault effect.now) (λ k. effect.now ≡ Effect.Fault k) }
+{
+    match effect {
+        Effect::Fault(fault) => Some(*fault),
+        _ => None,
+    }
+}
+
+// Drops what was decided.
+fn let_go(_decision: Decision) {}
+
+/// A step of the newest frame.
+fn go_on(core: &mut Core, script: &[Entry], events: &mut Vec<Event>) -> Step
+    requires goes { core.old.course ≡ Course.Goes }
+    requires rests { IsTrue (is_resting core.old.course (last_of core.old.frames.items)) }
+    requires some { 0 < vec_len core.old.frames }
+    ensures step { IsStep (fixed core.old) (parts_of core.old) script.now events.old.items result (parts_of core.new) events.new.items }
+    ensures fixed { fixed core.new ≡ fixed core.old }
+    ensures rests { IsTrue (is_resting core.new.course (last_of core.new.frames.items)) }
+{
+    let begun = core.begun;
+    let taken = core.taken;
+    let Some(top) = core.frames.pop() else {
+        return Step::Memory;
+    };
+    let Ok(decision) = prepare(core, &top, script, events, begun, taken) else {
+        put(&mut core.frames, top);
+        return Step::Memory;
+    };
+    match fault_of(&decision.effect) {
+        Some(fault) => {
+            let_go(decision);
+            put(&mut core.frames, top);
+            Step::Fault(fault)
+        }
+        None => {
+            complete(core, events, top, decision);
+            Step::Went
+        }
+    }
+}
