@@ -1,6 +1,6 @@
 -- What is planned for a statement is what the statement does.
-use Rattle.std.proofs.Common.{◌≡◌, ℕ, zero, suc, Bool, true, false, not, ◌&&◌, ◌||◌, List, [], ◌∷◌, ◌++◌, Option, Some, None, option_map, refl, sym, ap, ◌∙◌, map, drop, reverse, slice_get, is_none, unwrap_or, append_assoc, if◌then◌else◌}
-use Rattle.std.proofs.lemmas.List.{reverse-append, append-nil}
+use Rattle.std.proofs.Common.{◌≡◌, ℕ, Bool, true, false, not, ◌&&◌, ◌||◌, List, [], ◌∷◌, ◌++◌, Option, Some, None, option_map, refl, sym, ap, ◌∙◌, drop, reverse, is_none, unwrap_or, append_assoc, if◌then◌else◌}
+use Rattle.std.proofs.lemmas.List.{reverse-append}
 use Rattle.c_state.specs.declared.space.Obj.{Obj}
 use Rattle.c_state.specs.declared.space.Op.{Op}
 use Rattle.c_state.specs.declared.tree.Variable.{Variable}
@@ -16,11 +16,9 @@ use Rattle.c_state.specs.declared.tree.Line.{Line}
 use Rattle.c_state.specs.declared.tree.CStmt.{CStmt}
 use Rattle.c_state.specs.declared.tree.CStmt.TheVariants as stmt
 use Rattle.c_state.specs.declared.tree.CFunction.{CFunction}
-use Rattle.c_state.specs.declared.tree.CItem.{CItem}
 use Rattle.c_state.specs.declared.tree.CFile.{CFile}
 use Rattle.c_state.specs.declared.state.FaultKind.{FaultKind}
 use Rattle.c_state.specs.declared.state.FaultKind.TheVariants as fault
-use Rattle.c_state.specs.declared.state.Kind.{Kind}
 use Rattle.c_state.specs.declared.state.Kind.TheVariants as kind
 use Rattle.c_state.specs.declared.state.Value.{Value}
 use Rattle.c_state.specs.declared.state.Value.TheVariants as value
@@ -35,15 +33,15 @@ use Rattle.c_state.specs.declared.state.Doing.{Doing}
 use Rattle.c_state.specs.declared.state.Doing.TheVariants as doing
 use Rattle.c_state.specs.Objects.{same_obj}
 use Rattle.c_state.specs.State.{put_to, converts, lookup, spot, spots_at, has, lose, held, all_held, put, converted, Frame, CState}
-use Rattle.c_state.specs.Reads.{is_null, frame_of, parameter_kinds, any_module_variable, is_set, any_null, all_set, fits, read, read_each, one_more_reading, reads_module_variable, lends, loans_after, object_in, passed, receives, result_kind, items_at, Found, FoundFunction, NotFound, after_label, values_of}
-use Rattle.c_state.specs.Statements.{tell, owns_none, owns_just, same_lock, asking, store, may_store, error_fault, Moved, Went, Faulted, need, need_some, on, off, lend, assign, assign_variable, assign_place, store_value, row_result, ask, api, call_found, call, owned_more, owned_less, counted, incref, decref, branch, goto_if, to_caller, to_waiting, hand_object, hand_null, return_value, return_it, act, op_of, moved_out, comparable, same_value, by_comparison, takes}
+use Rattle.c_state.specs.Reads.{is_null, frame_of, parameter_kinds, any_module_variable, is_set, any_null, all_set, fits, read, read_each, one_more_reading, reads_module_variable, lends, loans_after, object_in, passed, receives, result_kind, items_at, after_label, values_of}
+use Rattle.c_state.specs.Statements.{tell, owns_none, owns_just, same_lock, asking, store, may_store, error_fault, Moved, Went, need, need_some, on, off, lend, assign, assign_variable, assign_place, store_value, row_result, ask, api, call_found, call, owned_more, owned_less, incref, decref, branch, goto_if, to_caller, to_waiting, hand_object, hand_null, return_value, return_it, act, op_of, moved_out, comparable, same_value, by_comparison, takes}
 use Rattle.c_mach.specs.declared.parts.Standing.{Standing}
 use Rattle.c_mach.specs.declared.parts.Activation.{Activation}
 use Rattle.c_mach.specs.declared.parts.Effect.{Effect}
 use Rattle.c_mach.specs.declared.parts.Effect.TheVariants as effect
 use Rattle.c_mach.specs.Views.{function_there, found_at, found_with, frame_by, frame_view, activated, no_function}
 use Rattle.c_mach.specs.Lookups.{label_line, standing_named}
-use Rattle.c_mach.specs.Plans.{checked, after, may_write_with, operand_in, operands_in, loans_in, may_read_with, held_in, all_held_in, write_plan, unowned, own_after_store, store_plan, row_accepts, row_plan, ask_plan, call_held, call_of, call_there, call_plan, gain_of, gain_plan, loss_of, loss_plan, taken_line, branch_plan, jump_plan, hand_by, hand_plan, object_plan, null_plan, null_with, result_plan, return_plan, read_then, Scene, function_here, spots_here, operand_here, operands_here, assign_plan, plan}
+use Rattle.c_mach.specs.Plans.{checked, after, may_write_with, operand_in, operands_in, loans_in, may_read_with, held_in, all_held_in, write_plan, unowned, own_after_store, store_plan, row_accepts, row_plan, ask_plan, call_held, call_there, call_plan, gain_of, gain_plan, loss_of, loss_plan, taken_line, branch_plan, jump_plan, hand_by, hand_plan, object_plan, null_plan, null_with, result_plan, return_plan, read_then, Scene, assign_plan, plan}
 use Rattle.c_mach.specs.Effects.{jumped, handed, effected}
 use Rattle.c_mach.proofs.Searches.{label_line-is, named-is}
 

@@ -1,5 +1,5 @@
 -- A write to the first cell or spot of a name.
-use Rattle.std.proofs.Common.{◌≡◌, ℕ, zero, suc, ◌<◌, Bool, true, Option, Some, List, [], ◌∷◌, ◌++◌, take, drop, set, length, get_or, slice_get, ◌-◌, refl, sym, ap, ◌∙◌, if◌then◌else◌, arith}
+use Rattle.std.proofs.Common.{◌≡◌, ℕ, zero, suc, ◌<◌, true, Some, List, [], ◌∷◌, ◌++◌, take, drop, set, length, get_or, slice_get, ◌-◌, refl, sym, ap, ◌∙◌, if◌then◌else◌, arith}
 use Rattle.std.proofs.Math.Seq.{drop-cons}
 use Rattle.c_state.specs.declared.tree.Variable.{Variable}
 use Rattle.c_state.specs.declared.tree.Place.{Place}

@@ -2,8 +2,6 @@
 use Rattle.std.proofs.Common.{◌≡◌, ℕ, zero, suc, Bool, true, false, List, [], ◌∷◌, Option, Some, None, option_map, refl, sym, ap, ◌∙◌, drop, slice_get, length, ◌<◌, arith, slice_index_or, nat_eq, if◌then◌else◌}
 use Rattle.c_state.specs.declared.tree.Line.{Line}
 use Rattle.c_state.specs.declared.tree.Line.TheVariants as line
-use Rattle.c_state.specs.declared.tree.CHead.{CHead}
-use Rattle.c_state.specs.declared.tree.CHead.TheVariants as head
 use Rattle.c_state.specs.declared.tree.CFunction.{CFunction}
 use Rattle.c_state.specs.declared.tree.CItem.{CItem}
 use Rattle.c_state.specs.declared.tree.CItem.TheVariants as item

@@ -1,5 +1,5 @@
 -- What is changed in the machine's parts is what changes in the state that they stand for.
-use Rattle.std.proofs.Common.{◌≡◌, ℕ, suc, List, [], ◌∷◌, ◌++◌, Bool, true, false, Option, Some, None, refl, sym, ap, ◌∙◌, map, drop, reverse}
+use Rattle.std.proofs.Common.{◌≡◌, List, [], ◌∷◌, ◌++◌, Option, Some, None, refl, sym, ap, ◌∙◌, map, reverse}
 use Rattle.std.proofs.lemmas.List.{reverse-append, reverse-reverse, append-nil}
 use Rattle.c_state.specs.declared.space.Obj.{Obj}
 use Rattle.c_state.specs.declared.space.Entry.{Entry}
@@ -8,21 +8,16 @@ use Rattle.c_state.specs.declared.space.Event.TheVariants as event
 use Rattle.c_state.specs.declared.tree.Variable.{Variable}
 use Rattle.c_state.specs.declared.tree.CFile.{CFile}
 use Rattle.c_state.specs.declared.state.Value.{Value}
-use Rattle.c_state.specs.declared.state.Value.TheVariants as value
 use Rattle.c_state.specs.declared.state.Doing.TheVariants as doing
-use Rattle.c_state.specs.State.{put, put_to, Frame, CState}
-use Rattle.c_state.specs.Statements.{Moved, Went, on, tell, lend, script_to}
+use Rattle.c_state.specs.State.{put, Frame, CState}
+use Rattle.c_state.specs.Statements.{Moved, Went, lend}
 use Rattle.c_mach.specs.declared.parts.Activation.{Activation}
 use Rattle.c_mach.specs.declared.parts.Effect.{Effect}
 use Rattle.c_mach.specs.declared.parts.Effect.TheVariants as effect
-use Rattle.c_mach.specs.declared.parts.Delivery.{Delivery}
-use Rattle.c_mach.specs.declared.parts.Delivery.TheVariants as delivery
-use Rattle.c_mach.specs.declared.parts.Turn.{Turn}
-use Rattle.c_mach.specs.declared.parts.Turn.TheVariants as turn
 use Rattle.c_mach.specs.Views.{frame_view, frames_view}
-use Rattle.c_mach.specs.Effects.{handed, course_after, jumped, effected, delivered, delivered_to, turned}
-use Rattle.c_mach.specs.Applied.{Parts, Fixed, above, lent_to, on_last, at_line, stored, given, applied, effect_events, answered_to, runs, delivered_in, moved_on, turn_events, last_of, seen}
-use Rattle.c_mach.proofs.Puts.{on_last-snoc, last_of-snoc}
+use Rattle.c_mach.specs.Effects.{handed, course_after, effected}
+use Rattle.c_mach.specs.Applied.{Parts, Fixed, on_last, stored, given, applied, effect_events, last_of, seen}
+use Rattle.c_mach.proofs.Puts.{on_last-snoc}
 
 -- the newest frame is the first
 pub view-above : (files : List CFile) (xs : List Activation) (a : Activation) → frames_view files (xs ++ a ∷ []) ≡ frame_view files a ∷ frames_view files xs

@@ -1,11 +1,9 @@
 -- One step, from what is planned and what is changed.
-use Rattle.std.proofs.Common.{◌≡◌, ℕ, zero, suc, List, [], ◌∷◌, ◌++◌, Bool, true, false, Option, Some, None, refl, sym, ap, ◌∙◌, map, drop, reverse, subst, is_none, ◌||◌, if◌then◌else◌}
+use Rattle.std.proofs.Common.{◌≡◌, ℕ, List, [], ◌∷◌, ◌++◌, Bool, Option, Some, None, refl, sym, ap, ◌∙◌, drop, reverse, subst, is_none, ◌||◌}
 use Rattle.std.proofs.lemmas.List.{append-nil}
 use Rattle.c_state.specs.declared.space.Obj.{Obj}
 use Rattle.c_state.specs.declared.space.Op.{Op}
-use Rattle.c_state.specs.declared.space.Callee.{Callee}
 use Rattle.c_state.specs.declared.space.Entry.{Entry}
-use Rattle.c_state.specs.declared.space.Entry.TheVariants as entry
 use Rattle.c_state.specs.declared.space.Event.{Event}
 use Rattle.c_state.specs.declared.space.Event.TheVariants as event
 use Rattle.c_state.specs.declared.tree.Variable.{Variable}
@@ -15,15 +13,12 @@ use Rattle.c_state.specs.declared.tree.Target.TheVariants as target
 use Rattle.c_state.specs.declared.tree.ApiRow.{ApiRow}
 use Rattle.c_state.specs.declared.tree.CValue.{CValue}
 use Rattle.c_state.specs.declared.tree.Comparison.{Comparison}
-use Rattle.c_state.specs.declared.tree.Line.{Line}
-use Rattle.c_state.specs.declared.tree.Line.TheVariants as line
 use Rattle.c_state.specs.declared.tree.CStmt.{CStmt}
 use Rattle.c_state.specs.declared.tree.CStmt.TheVariants as stmt
 use Rattle.c_state.specs.declared.tree.CFunction.{CFunction}
 use Rattle.c_state.specs.declared.tree.CFile.{CFile}
 use Rattle.c_state.specs.declared.state.FaultKind.{FaultKind}
 use Rattle.c_state.specs.declared.state.FaultKind.TheVariants as fault
-use Rattle.c_state.specs.declared.state.Step.TheVariants as step
 use Rattle.c_state.specs.declared.state.Kind.{Kind}
 use Rattle.c_state.specs.declared.state.Value.{Value}
 use Rattle.c_state.specs.declared.state.Value.TheVariants as value
@@ -32,14 +27,9 @@ use Rattle.c_state.specs.declared.state.Cell.{Cell}
 use Rattle.c_state.specs.declared.state.Spot.{Spot}
 use Rattle.c_state.specs.declared.state.Entered.{Entered}
 use Rattle.c_state.specs.declared.state.Entered.TheVariants as entered
-use Rattle.c_state.specs.declared.state.Doing.{Doing}
-use Rattle.c_state.specs.declared.state.Doing.TheVariants as doing
-use Rattle.c_state.specs.declared.state.Course.{Course}
-use Rattle.c_state.specs.declared.state.Course.TheVariants as course
-use Rattle.c_state.specs.State.{lookup, spot, has, lose, converted, Frame, CState}
+use Rattle.c_state.specs.State.{lookup, spot, has, lose, converted}
 use Rattle.c_state.specs.Reads.{lends, passed, values_of, result_kind}
-use Rattle.c_state.specs.Statements.{op_of, same_value, by_comparison, owns_none, owns_just, Moved, Went, Over, Faulted, on, off, tell, script_to, act, run_line}
-use Rattle.c_state.specs.Machine.{by_frame, by_frames, by_course, move, is_asking, outside, settle_for, settle, Stepped, over_answer, stepped, c_step}
+use Rattle.c_state.specs.Statements.{op_of, same_value, by_comparison, owns_none, owns_just}
 use Rattle.c_mach.specs.declared.parts.Standing.{Standing}
 use Rattle.c_mach.specs.declared.parts.Activation.{Activation}
 use Rattle.c_mach.specs.declared.parts.Effect.{Effect}
@@ -48,17 +38,14 @@ use Rattle.c_mach.specs.declared.parts.Delivery.{Delivery}
 use Rattle.c_mach.specs.declared.parts.Delivery.TheVariants as delivery
 use Rattle.c_mach.specs.declared.parts.Turn.{Turn}
 use Rattle.c_mach.specs.declared.parts.Turn.TheVariants as turn
-use Rattle.c_mach.specs.Views.{function_at, function_there, found_at, frame_view, frames_view, activated}
-use Rattle.c_mach.specs.Lookups.{label_line, standing_named, Next, Lines, NoLine, next_line, standing_entered, standing_next}
-use Rattle.c_mach.specs.Plans.{checked, write_fault, own_after_store, store_fault, ask_fault, row_fault, call_fault, call_held, all_held_in, loans_in, held_in, branch_fault, taken_line, counted_fault, return_fault, operand_here, operands_here, spots_here, function_here, after, write_plan, store_plan, row_plan, ask_plan, call_there, call_plan, gain_of, gain_plan, loss_of, loss_plan, branch_plan, jump_plan, hand_by, hand_plan, object_plan, null_plan, null_with, result_plan, return_plan, read_then, Scene, assign_plan, plan}
-use Rattle.c_mach.specs.Effects.{effected, delivered, delivered_to, turned}
-use Rattle.c_mach.specs.Turns.{Stage, Go, is_found, fitting, enter_else, enter_or, top_entry, top_turn, begin_there, begin_at, idle_go, effect_go}
-use Rattle.c_mach.specs.Applied.{Parts, Fixed, applied, effect_events, answered_to, given, runs, on_last, delivered_in, moved_on, turn_events, last_of, seen}
+use Rattle.c_mach.specs.Views.{function_there, frame_view, frames_view, activated}
+use Rattle.c_mach.specs.Lookups.{label_line, standing_named}
+use Rattle.c_mach.specs.Plans.{checked, write_fault, own_after_store, store_fault, ask_fault, row_fault, call_fault, call_held, all_held_in, loans_in, held_in, branch_fault, taken_line, counted_fault, return_fault, operand_here, operands_here, spots_here, function_here, after, write_plan, store_plan, row_plan, ask_plan, call_there, call_plan, gain_of, gain_plan, loss_of, loss_plan, branch_plan, jump_plan, hand_plan, object_plan, null_plan, null_with, result_plan, return_plan, read_then, Scene, assign_plan, plan}
+use Rattle.c_mach.specs.Effects.{delivered, delivered_to, turned}
+use Rattle.c_mach.specs.Applied.{Parts, Fixed, answered_to, given, runs, on_last, delivered_in, moved_on, turn_events, last_of, seen}
 use Rattle.c_mach.specs.Deciding.{NoFault}
 use Rattle.c_mach.proofs.Puts.{on_last-snoc}
-use Rattle.c_mach.proofs.Planned.{IsBelow, scene_from, planned}
-use Rattle.c_mach.proofs.Settled.{stage_from, calm, Settles, idle-settled, failed-settled, effect-settled, runs-calm}
-use Rattle.c_mach.proofs.Seen.{view-above, loans-more, Snoc, last-split, last-none, IsDone, effect-seen}
+use Rattle.c_mach.proofs.Seen.{view-above, loans-more, last-split, last-none, IsDone}
 
 -- a turn changes the parts as it changes the state
 abbrev with_frames : Parts → List Activation → Parts

@@ -1,5 +1,5 @@
 -- A step is what is decided, and then what is changed.
-use Rattle.std.proofs.Common.{◌≡◌, suc, List, [], ◌∷◌, ◌++◌, Bool, ℕ, true, false, not, Option, Some, None, IsTrue, refl, sym, ap, ◌∙◌, map, drop, reverse, subst, length, if◌then◌else◌}
+use Rattle.std.proofs.Common.{◌≡◌, suc, List, [], ◌∷◌, ◌++◌, Bool, ℕ, true, false, not, Option, Some, None, IsTrue, refl, sym, ap, ◌∙◌, drop, subst, length, if◌then◌else◌}
 use Rattle.c_state.specs.declared.space.Entry.{Entry}
 use Rattle.c_state.specs.declared.space.Entry.TheVariants as entry
 use Rattle.c_state.specs.declared.space.Event.{Event}
@@ -12,7 +12,6 @@ use Rattle.c_state.specs.declared.tree.CStmt.{CStmt}
 use Rattle.c_state.specs.declared.tree.CFunction.{CFunction}
 use Rattle.c_state.specs.declared.tree.CFile.{CFile}
 use Rattle.c_state.specs.declared.state.FaultKind.{FaultKind}
-use Rattle.c_state.specs.declared.state.FaultKind.TheVariants as fault
 use Rattle.c_state.specs.declared.state.Step.TheVariants as step
 use Rattle.c_state.specs.declared.state.Doing.{Doing}
 use Rattle.c_state.specs.declared.state.Doing.TheVariants as doing
@@ -20,8 +19,8 @@ use Rattle.c_state.specs.declared.state.Course.{Course}
 use Rattle.c_state.specs.declared.state.Course.TheVariants as course
 use Rattle.c_state.specs.Objects.{read_objs}
 use Rattle.c_state.specs.State.{Frame, CState}
-use Rattle.c_state.specs.Statements.{Moved, Went, Over, Faulted, off, act, run_line}
-use Rattle.c_state.specs.Machine.{by_frame, by_frames, by_course, move, is_asking, none_runs, outside_by, outside, settle_for, settle, Stepped, over_answer, stepped, c_step}
+use Rattle.c_state.specs.Statements.{Went, Over, Faulted, act, run_line}
+use Rattle.c_state.specs.Machine.{by_frame, by_frames, by_course, move, is_asking, none_runs, outside_by, outside, settle, over_answer, stepped, c_step}
 use Rattle.c_mach.specs.declared.parts.Standing.{Standing}
 use Rattle.c_mach.specs.declared.parts.Activation.{Activation}
 use Rattle.c_mach.specs.declared.parts.Effect.{Effect}
@@ -32,9 +31,9 @@ use Rattle.c_mach.specs.Views.{function_at, function_there, found_at, found_with
 use Rattle.c_mach.specs.Lookups.{Next, Lines, NoLine, next_line, standing_entered, standing_next}
 use Rattle.c_mach.specs.Plans.{Scene, plan}
 use Rattle.c_mach.specs.Effects.{effected, turned}
-use Rattle.c_mach.specs.Turns.{Stage, Go, go, is_found, fitting, rest_of, enter_else, enter_or, top_entry, top_turn, top_go, begin_there, begin_at, idle_go, effect_go}
+use Rattle.c_mach.specs.Turns.{Stage, Go, is_found, fitting, enter_else, enter_or, top_turn, begin_there, begin_at, idle_go, effect_go}
 use Rattle.c_mach.specs.Applied.{Parts, Fixed, applied, effect_events, moved_on, turn_events, last_of, seen}
-use Rattle.c_mach.specs.Deciding.{next_effect, lines_after, next_here, doing_effect, effect_here, scene_at, stage_at, rests, is_resting, step_of, NoFault, finished, finished_events, started, Starts, IsDecided, IsStep}
+use Rattle.c_mach.specs.Deciding.{next_effect, lines_after, next_here, doing_effect, effect_here, scene_at, stage_at, rests, is_resting, NoFault, finished, finished_events, started, Starts, IsDecided, IsStep}
 use Rattle.c_mach.proofs.Planned.{IsBelow, planned}
 use Rattle.c_mach.proofs.Settled.{calm, idle-settled, failed-settled, effect-settled, runs-calm}
 use Rattle.c_mach.proofs.Calm.{settled_calm}

@@ -1,5 +1,5 @@
 -- What effects and turns make of the machine's parts, where the newest frame and the newest loan come last.
-use Rattle.std.specs.Prelude.{ℕ, Bool, true, false, List, [], ◌∷◌, ◌++◌, Option, Some, None, reverse, length, drop}
+use Rattle.std.specs.Prelude.{ℕ, Bool, List, [], ◌∷◌, ◌++◌, Option, Some, None, reverse, length, drop}
 use Rattle.c_state.specs.declared.space.Obj.{Obj}
 use Rattle.c_state.specs.declared.space.Event.{Event}
 use Rattle.c_state.specs.declared.space.Event.TheVariants as event
@@ -9,7 +9,6 @@ use Rattle.c_state.specs.declared.tree.CFile.{CFile}
 use Rattle.c_state.specs.declared.state.Spot.{Spot}
 use Rattle.c_state.specs.declared.state.Value.{Value}
 use Rattle.c_state.specs.declared.state.Value.TheVariants as value
-use Rattle.c_state.specs.declared.state.Doing.{Doing}
 use Rattle.c_state.specs.declared.state.Doing.TheVariants as doing
 use Rattle.c_state.specs.declared.state.Course.{Course}
 use Rattle.c_state.specs.declared.state.Course.TheVariants as course

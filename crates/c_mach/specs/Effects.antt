@@ -1,5 +1,5 @@
 -- What effects and the outside's turns make of a state.
-use Rattle.std.specs.Prelude.{ℕ, Bool, true, false, List, [], ◌∷◌, ◌++◌, Option, Some, None, drop}
+use Rattle.std.specs.Prelude.{ℕ, Bool, true, false, List, [], ◌∷◌, Option, Some, None, drop}
 use Rattle.c_state.specs.declared.space.Obj.{Obj}
 use Rattle.c_state.specs.declared.space.Entry.{Entry}
 use Rattle.c_state.specs.declared.space.Event.TheVariants as event

@@ -1,5 +1,5 @@
 -- The turn that the outside takes after a statement, from the parts of the state that it reads.
-use Rattle.std.specs.Prelude.{ℕ, suc, Bool, true, false, List, [], ◌∷◌, Option, Some, None, pos, length, drop, if◌then◌else◌}
+use Rattle.std.specs.Prelude.{ℕ, suc, Bool, true, false, List, [], ◌∷◌, Option, Some, None, pos, length, if◌then◌else◌}
 use Rattle.c_state.specs.declared.space.Obj.{Obj}
 use Rattle.c_state.specs.declared.space.Op.{Op}
 use Rattle.c_state.specs.declared.space.Answer.{Answer}

@@ -1,13 +1,11 @@
 -- The machine's parts as the state that they stand for.
-use Rattle.std.specs.Prelude.{ℕ, List, [], ◌∷◌, Option, Some, None, Bool, map, drop, reverse, slice_get, unwrap_or, ◌++◌}
+use Rattle.std.specs.Prelude.{ℕ, List, [], Option, Some, None, Bool, map, drop, reverse, slice_get, unwrap_or, ◌++◌}
 use Rattle.c_state.specs.declared.space.Obj.{Obj}
-use Rattle.c_state.specs.declared.tree.CHead.{CHead}
 use Rattle.c_state.specs.declared.tree.CHead.TheVariants as head
 use Rattle.c_state.specs.declared.tree.CFunction.{CFunction}
 use Rattle.c_state.specs.declared.tree.CItem.{CItem}
 use Rattle.c_state.specs.declared.tree.CItem.TheVariants as item
 use Rattle.c_state.specs.declared.tree.CFile.{CFile}
-use Rattle.c_state.specs.declared.state.Cell.{Cell}
 use Rattle.c_state.specs.declared.state.Entered.{Entered}
 use Rattle.c_state.specs.declared.state.Value.{Value}
 use Rattle.c_state.specs.declared.state.Doing.TheVariants as doing

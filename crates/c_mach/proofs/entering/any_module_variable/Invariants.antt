@@ -1,4 +1,4 @@
-use Rattle.std.proofs.Common.{◌≡◌, ◌++◌, drop, map}
+use Rattle.std.proofs.Common.{◌≡◌, drop}
 use Rattle.c_state.specs.Reads.{any_module_variable}
 use Rattle.c_mach.proofs.entering.any_module_variable.Given as goal
 

@@ -1,4 +1,4 @@
-use Rattle.std.proofs.Common.{◌≡◌, ◌++◌, drop, map}
+use Rattle.std.proofs.Common.{◌≡◌, ◌++◌, drop}
 use Rattle.c_mach.specs.Plans.{loans_in}
 use Rattle.c_mach.proofs.entering.loans_in.Given as goal
 

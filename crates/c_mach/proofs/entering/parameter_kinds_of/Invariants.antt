@@ -1,4 +1,4 @@
-use Rattle.std.proofs.Common.{◌≡◌, ◌++◌, drop, map}
+use Rattle.std.proofs.Common.{◌≡◌, ◌++◌, drop}
 use Rattle.c_state.specs.Reads.{parameter_kinds_of}
 use Rattle.c_mach.proofs.entering.parameter_kinds_of.Given as goal
 

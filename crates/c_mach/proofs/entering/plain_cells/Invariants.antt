@@ -1,4 +1,4 @@
-use Rattle.std.proofs.Common.{◌≡◌, ◌++◌, drop, map}
+use Rattle.std.proofs.Common.{◌≡◌, ◌++◌, drop}
 use Rattle.c_state.specs.Reads.{plain_cells}
 use Rattle.c_mach.proofs.entering.plain_cells.Given as goal
 

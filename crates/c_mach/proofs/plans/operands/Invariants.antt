@@ -1,4 +1,4 @@
-use Rattle.std.proofs.Common.{◌≡◌, ◌++◌, drop}
+use Rattle.std.proofs.Common.{◌≡◌, drop}
 use Rattle.c_mach.specs.Plans.{operands_in, prefixed}
 use Rattle.c_mach.proofs.plans.operands.Given as goal
 

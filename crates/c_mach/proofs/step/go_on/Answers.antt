@@ -1,8 +1,8 @@
-use Rattle.std.proofs.Common.{◌≡◌, ◌∙◌, ap, sym, List, [], ◌∷◌, ◌++◌}
+use Rattle.std.proofs.Common.{◌∙◌, ap, List}
 use Rattle.c_state.specs.declared.space.Event.{Event}
-use Rattle.c_mach.specs.Applied.{Parts, parts_of, Fixed, fixed, applied, effect_events, moved_on, turn_events}
+use Rattle.c_mach.specs.Applied.{Parts, parts_of, fixed}
 use Rattle.c_mach.specs.Deciding.{finished, finished_events}
-use Rattle.c_mach.proofs.Steps.{decides, is-memory, is-fault, is-went, went-rests, put-back, at_next, parts_after, events_after}
+use Rattle.c_mach.proofs.Steps.{decides, is-memory, is-fault, is-went, went-rests, put-back}
 use Rattle.c_mach.proofs.step.go_on.Goals as goal
 
 pub returns-in_default-prepare-clause-step : goal.returns-in_default-prepare-clause-step
