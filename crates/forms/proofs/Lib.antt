@@ -6,3 +6,4 @@ pub mod BothLaws
 pub mod OrLaws
 pub mod GuardLaws
 pub mod Turns
+pub mod ListLaws

@@ -2,7 +2,7 @@
 use Rattle.std.proofs.Common.{◌≡◌, ℕ, zero, suc, ◌+◌, ◌<◌, ◌≤◌, max, Bool, true, false, List, [], ◌∷◌, ◌++◌, length, refl, sym, ◌∙◌, ap, subst, append-nil, length-append, arith}
 use Rattle.std.specs.Prelude.{Option, Some, None}
 use Rattle.forms.specs.Forms.{Mark, plain, IsClean, Form, Set, none, nothing, Begins, Sentences}
-use Rattle.forms.specs.Readers.{Fault, unexpected, limit, Outcome, did, bad, Reader, sees, rest_of, put, read_nothing}
+use Rattle.forms.specs.Readers.{Fault, unexpected, limit, Outcome, did, bad, Reader, sees, rest_of, put, read_nothing, read_turns, read_turned}
 use Rattle.forms.specs.Exact.{expected, Goes, Exact}
 use Rattle.forms.proofs.Facts.{plain_length, goes_as}
 
@@ -23,13 +23,6 @@ turned F v ts a = (n : ℕ) × turns n F v ts a
 
 abbrev pub shorter : {T A : Type 0} → ℕ → Form T A → Form T A
 shorter n L us a = (length us < n) × L us a
-
-unfoldable pub read_turns : {T A : Type 0} → ℕ → (Reader T A → Reader T A) → A → Reader T A
-read_turns zero G v = read_nothing v
-read_turns (suc n) G v = G (read_turns n G v)
-
-unfoldable pub read_turned : {T A : Type 0} → (Reader T A → Reader T A) → A → Reader T A
-read_turned G v ts = read_turns (suc (length ts)) G v ts
 
 module _ (T A : Type 0) (F : Turn T A) (G : Reader T A → Reader T A) (v : A) (b m : Set T)
     (mono : (L M : Form T A) → Within L M → Within (F L) (F M))

@@ -1,3 +1,4 @@
 pub mod Forms
 pub mod Readers
 pub mod Exact
+pub mod Lists

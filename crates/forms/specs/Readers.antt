@@ -58,14 +58,26 @@ unfoldable pub read_guard : {T A : Type 0} → Bool → Set T → (T → ℕ) �
 read_guard true b number p = p
 read_guard false b number p = refuse b number
 
--- at most n times
-unfoldable pub read_from : {T A : Type 0} → ℕ → Set T → Reader T A → Reader T (List A)
-read_from zero b p = read_nothing []
-read_from (suc n) b p = read_or b (read_both (λ x xs. x ∷ xs) p (read_from n b p)) (read_nothing [])
+-- ---- any number of turns
 
--- any number of times: each takes a token, so there are no more than tokens
+-- at most n turns
+unfoldable pub read_turns : {T A : Type 0} → ℕ → (Reader T A → Reader T A) → A → Reader T A
+read_turns zero turn v = read_nothing v
+read_turns (suc n) turn v = turn (read_turns n turn v)
+
+-- Each turn takes a token, so there are no more of them than tokens.
+unfoldable pub read_turned : {T A : Type 0} → (Reader T A → Reader T A) → A → Reader T A
+read_turned turn v ts = read_turns (suc (length ts)) turn v ts
+
+abbrev pub cons : {A : Type 0} → A → List A → List A
+cons x xs = x ∷ xs
+
+abbrev pub read_one_more : {T A : Type 0} → Set T → Reader T A → Reader T (List A) → Reader T (List A)
+read_one_more b p q = read_or b (read_both cons p q) (read_nothing [])
+
+-- any number of times
 unfoldable pub read_many : {T A : Type 0} → Set T → Reader T A → Reader T (List A)
-read_many b p ts = read_from (suc (length ts)) b p ts
+read_many b p = read_turned (read_one_more b p) []
 
 -- ---- parts of outcomes
 
