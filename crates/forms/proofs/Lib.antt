@@ -7,3 +7,4 @@ pub mod OrLaws
 pub mod GuardLaws
 pub mod Turns
 pub mod ListLaws
+pub mod TrailLaws

@@ -15,11 +15,11 @@ use Rattle.forms.proofs.Turns.{Within, Turn, turns, turned, shorter, turned_exac
 
 -- ---- sets
 
-or_no : (a : Bool) → (a || false) ≡ a
+pub or_no : (a : Bool) → (a || false) ≡ a
 or_no true = refl
 or_no false = refl
 
-or_off : (a b : Bool) → a ≡ false → b ≡ false → (a || b) ≡ false
+pub or_off : (a b : Bool) → a ≡ false → b ≡ false → (a || b) ≡ false
 or_off a b h g = rw h g
 
 -- ---- readers that agree on what is shorter
