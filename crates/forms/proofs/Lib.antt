@@ -8,3 +8,4 @@ pub mod GuardLaws
 pub mod Turns
 pub mod ListLaws
 pub mod TrailLaws
+pub mod Answering

@@ -48,12 +48,16 @@ abbrev pub Stops : {T A : Type 0} → Form T A → List T → List T → Type 0
 Stops L ts [] = Unit {0}
 Stops L ts (x ∷ rest) = Starts L (ts ++ x ∷ []) → ⊥
 
+-- No sentence that begins with the tokens of the run passes a limit in it.
+abbrev pub Keeps : {T A : Type 0} → Form T A → List (Mark T) → Type 0
+Keeps {T} {A} L run = (front later : List (Mark T)) (a : A) → plain front ≡ plain run → L (front ++ later) a → IsClean front
+
 -- The run, which is as many tokens as some sentence begins with, spells this value alone, within the limits.
 pub record Found (T A : Type 0) (L : Form T A) (ts rest : List T) (a : A) : Type 0 where
   pub run : List (Mark T)
   pub cut : ts ≡ plain run ++ rest
   pub spelled : L run a
-  pub clean : IsClean run
+  pub clean : Keeps L run
   pub only : (other : List (Mark T)) (b : A) → plain other ≡ plain run → L other b → b ≡ a
   pub longest : Stops L (plain run) rest
 
@@ -62,7 +66,7 @@ pub record Wrong (T A : Type 0) (L : Form T A) (ts rest : List T) : Type 0 where
   pub run : List (Mark T)
   pub cut : ts ≡ plain run ++ rest
   pub goes : (later : List (Mark T)) × (a : A) × L (run ++ later) a
-  pub clean : IsClean run
+  pub clean : Keeps L run
   pub none : (other : List (Mark T)) (a : A) → plain other ≡ plain run → L other a → ⊥
   pub longest : Stops L (plain run) rest
 
