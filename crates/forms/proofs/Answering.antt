@@ -1,10 +1,10 @@
 -- An exact reader answers the one value of the longest run, or the first token that is wrong or passes a limit.
-use Rattle.std.proofs.Common.{◌≡◌, ℕ, zero, suc, ◌≤◌, ◌+◌, Bool, true, false, ◌⊎◌, inl, inr, List, [], ◌∷◌, ◌++◌, length, refl, sym, ◌∙◌, ap, subst, append_assoc, append-nil, length-append, arith}
+use Rattle.std.proofs.Common.{◌≡◌, ℕ, ◌≤◌, Bool, ◌⊎◌, inl, inr, List, [], ◌∷◌, ◌++◌, length, refl, sym, ◌∙◌, ap, subst, append_assoc, append-nil, length-append, arith}
 use Rattle.std.specs.Prelude.{Option, Some, None}
 use Rattle.forms.specs.Forms.{Mark, plain, IsClean, Form, Set}
-use Rattle.forms.specs.Readers.{Fault, unexpected, limit, Outcome, did, bad, Reader, rest_of, put}
+use Rattle.forms.specs.Readers.{unexpected, limit, Outcome, did, bad, Reader, rest_of, put}
 use Rattle.forms.specs.Exact.{marked, expected, Goes, Exact, Starts, Stops, Keeps, Found, Wrong, Passed, Answers, ExactReadersAnswer}
-use Rattle.forms.proofs.Facts.{did_value, did_bad, bad_limit, plain_append, expected_clean}
+use Rattle.forms.proofs.Facts.{did_value, did_bad, plain_append, expected_clean}
 
 abbrev IsLimit : {T A : Type 0} → Outcome T A → Type 0
 IsLimit (did a rest) = ⊥
@@ -66,7 +66,7 @@ over_at {T} {A} (x ∷ front) y later a n h = go x.1 refl h (over_at front y lat
     go : (o : Option ℕ) → x.1 ≡ o → marked {T = T} {A = A} o (expected (front ++ y ∷ later) a []) (x.0 ∷ (plain (front ++ y ∷ later) ++ [])) ≡ bad (limit n) (y.0 ∷ (plain later ++ []))
         → (expected (front ++ y ∷ later) a [] ≡ bad (limit n) (y.0 ∷ (plain later ++ [])) → IsClean front × (y.1 ≡ Some n)) → IsClean (x ∷ front) × (y.1 ≡ Some n)
     go None e h ih = let u = ih h in ((e, u.0), u.1)
-    go (Some f) e h ih = absurd (omega (arith, ap (λ o. length (rest_of o)) h, ap (λ w. length (w ++ [])) (plain_append front (y ∷ later)), append_assoc (plain front) (y.0 ∷ plain later) [], length-append (plain front) ((y.0 ∷ plain later) ++ []), ap length (append_assoc (plain front) (y.0 ∷ plain later) [])))
+    go (Some f) e h ih = absurd (omega (arith, ap (λ o. length (rest_of o)) h, ap (λ w. length (w ++ [])) (plain_append front (y ∷ later)), length-append (plain front) ((y.0 ∷ plain later) ++ []), ap length (append_assoc (plain front) (y.0 ∷ plain later) [])))
 
 -- ---- answers
 
@@ -89,15 +89,19 @@ module _ (T A : Type 0) (L : Form T A) (p : Reader T A) (e : Bool) (b m : Set T)
     where
       nil : {y : T} {ys : List T} → [] ≡ y ∷ ys → ⊥
       nil h = cc
+
       put_rest : (w : Outcome T A) → rest_of (put (x ∷ plain s.1) w) ≡ x ∷ plain s.1
       put_rest (did a t) = refl
       put_rest (bad f t) = refl
+
       undo : (w : Outcome T A) → IsLimit (put (x ∷ plain s.1) w) → IsLimit w
       undo (did a t) d = d
       undo (bad unexpected t) d = d
       undo (bad (limit k) t) d = d
+
       now : p (front ++ x ∷ plain s.1) ≡ put (x ∷ plain s.1) o
       now = X.near front [] r (plain s.1) x (ap rest_of h ∙ g) ∙ ap (λ z. put (x ∷ plain s.1) z) h
+
       tokens : plain (s.0 ++ s.1) ≡ front ++ x ∷ plain s.1
       tokens = plain_append s.0 s.1 ∙ ap (λ w. w ++ plain s.1) s.3 ∙ append_assoc front (x ∷ []) (plain s.1)
 
@@ -117,9 +121,9 @@ module _ (T A : Type 0) (L : Form T A) (p : Reader T A) (e : Bool) (b m : Set T)
           let cut : front ++ later ≡ k.before ++ (k.token, Some k.number) ∷ (k.after ++ later) = ap (λ w. w ++ later) k.cut ∙ append_assoc k.before ((k.token, Some k.number) ∷ k.after) later in
           let tokens : plain (front ++ later) ≡ us ++ k.token ∷ plain (k.after ++ later) = ap plain cut ∙ plain_append k.before ((k.token, Some k.number) ∷ (k.after ++ later)) in
           let there : p (us ++ k.token ∷ plain (k.after ++ later)) ≡ bad (limit k.number) (k.token ∷ (plain (k.after ++ later) ++ [])) =
-              ap p (sym tokens) ∙ whole (front ++ later) a l ∙ ap (λ w. expected w a []) cut ∙ expected_passed k.before k.token k.number (k.after ++ later) a [] k.clean in
+          ap p (sym tokens) ∙ whole (front ++ later) a l ∙ ap (λ w. expected w a []) cut ∙ expected_passed k.before k.token k.number (k.after ++ later) a [] k.clean in
           let here : p (us ++ k.token ∷ (vs ++ rest)) ≡ bad (limit k.number) (k.token ∷ (vs ++ rest)) =
-              X.near us [] (plain (k.after ++ later)) (vs ++ rest) k.token (ap rest_of there ∙ ap (λ w. k.token ∷ w) (append-nil (plain (k.after ++ later)))) ∙ ap (λ z. put (k.token ∷ (vs ++ rest)) z) there in
+          X.near us [] (plain (k.after ++ later)) (vs ++ rest) k.token (ap rest_of there ∙ ap (λ w. k.token ∷ w) (append-nil (plain (k.after ++ later)))) ∙ ap (λ z. put (k.token ∷ (vs ++ rest)) z) there in
           let same : plain run ++ rest ≡ us ++ k.token ∷ (vs ++ rest) = ap (λ w. w ++ rest) (sym e ∙ ap plain k.cut ∙ plain_append k.before ((k.token, Some k.number) ∷ k.after)) ∙ append_assoc us (k.token ∷ vs) rest in
           absurd (n (let P : Outcome T A → Type 0 = λ w. IsLimit w in subst P (sym (ap p same ∙ here) ∙ h) tt))
 
@@ -156,7 +160,7 @@ module _ (T A : Type 0) (L : Form T A) (p : Reader T A) (e : Bool) (b m : Set T)
   passes n before after x h front y later a hb hy l =
       let t = X.takes (front ++ y ∷ later) [] a l refl in
       let cut : plain (front ++ y ∷ later) ++ [] ≡ before ++ x ∷ (plain later ++ []) =
-          ap (λ w. w ++ []) (plain_append front (y ∷ later)) ∙ append_assoc (plain front) (y.0 ∷ plain later) [] ∙ ap (λ w. w ++ y.0 ∷ (plain later ++ [])) hb ∙ ap (λ w. before ++ w ∷ (plain later ++ [])) hy in
+      ap (λ w. w ++ []) (plain_append front (y ∷ later)) ∙ append_assoc (plain front) (y.0 ∷ plain later) [] ∙ ap (λ w. w ++ y.0 ∷ (plain later ++ [])) hb ∙ ap (λ w. before ++ w ∷ (plain later ++ [])) hy in
       let k = X.near before [] after (plain later ++ []) x (ap rest_of h) ∙ ap (λ z. put (x ∷ (plain later ++ [])) z) h in
       over_at front y later a n (sym t ∙ ap p cut ∙ k ∙ ap (λ w. bad (limit n) (w ∷ (plain later ++ []))) (sym hy))
 

@@ -1,7 +1,7 @@
 -- What the sentences of each combination begin with.
-use Rattle.std.proofs.Common.{◌≡◌, ℕ, zero, suc, Bool, true, false, ◌&&◌, ◌||◌, ◌⊎◌, inl, inr, List, [], ◌∷◌, ◌++◌, refl, sym, ◌∙◌, ap, subst, append-nil}
+use Rattle.std.proofs.Common.{◌≡◌, ℕ, Bool, true, false, ◌&&◌, ◌||◌, List, [], ◌∷◌, ◌++◌, refl, sym, ◌∙◌, ap, subst}
 use Rattle.std.specs.Prelude.{Option, Some, None}
-use Rattle.forms.specs.Forms.{Mark, plain, IsClean, Form, Set, none, either, kept, One, one, Both, both, nothing, Or, this, that, or, many, Placed, placed, Over, over, guard, Begins, Sentence, Sentences}
+use Rattle.forms.specs.Forms.{Mark, plain, Form, Set, none, either, kept, One, one, both, nothing, this, that, or, many, placed, Over, over, guard, Begins, Sentence, Sentences}
 use Rattle.forms.proofs.Facts.{and_true, right_true, plain_append}
 
 -- ---- one sentence
@@ -89,8 +89,12 @@ module _ (T A B C : Type 0) (f : A → B → C) (L : Form T A) (M : Form T B) (b
       go (x ∷ us) vs h = h
 
   opened_starts : (x : T) → b1 x ≡ true → (o : Option ℕ) × (later : List (Mark T)) × (c : C) × both f L M ((x, o) ∷ later) c
-  opened_starts x h = let u = X.starts x h in (u.0, u.1 ++ some.tokens, f u.2 some.value,
-      record { a = u.2; b = some.value; front = (x, u.0) ∷ u.1; back = some.tokens; cut = refl; left = u.3; right = some.spelled; made = refl })
+  opened_starts x h = let u = X.starts x h in (
+    u.0,
+    u.1 ++ some.tokens,
+    f u.2 some.value,
+    record { a = u.2; b = some.value; front = (x, u.0) ∷ u.1; back = some.tokens; cut = refl; left = u.3; right = some.spelled; made = refl },
+  )
 
   pub sentences_opened : Sentences T C (both f L M) false b1
   sentences_opened = record { first = opened_first; some = some_both f X.some some; blank = λ h. cc; starts = opened_starts }

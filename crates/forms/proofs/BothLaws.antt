@@ -1,9 +1,8 @@
 -- One form after another.
-use Rattle.std.proofs.Common.{◌≡◌, ℕ, Bool, true, false, ◌&&◌, ◌||◌, List, [], ◌∷◌, ◌++◌, refl, sym, ◌∙◌, ap, subst, append_assoc, append-nil}
+use Rattle.std.proofs.Common.{◌≡◌, Bool, false, ◌&&◌, List, [], ◌∷◌, ◌++◌, refl, sym, ◌∙◌, ap, subst, append_assoc, append-nil}
 use Rattle.std.proofs.lemmas.List.{append_cancel_right}
-use Rattle.std.specs.Prelude.{Option, Some, None}
-use Rattle.forms.specs.Forms.{Mark, plain, IsClean, Form, Set, none, either, kept, Apart, Both, both, Begins, Sentences}
-use Rattle.forms.specs.Readers.{Fault, unexpected, limit, Outcome, did, bad, Reader, and_then, sees, rest_of, put, read_both}
+use Rattle.forms.specs.Forms.{Mark, plain, IsClean, Form, Set, either, kept, Apart, both, Begins}
+use Rattle.forms.specs.Readers.{Fault, Outcome, did, bad, Reader, and_then, sees, rest_of, read_both}
 use Rattle.forms.specs.Exact.{expected, Goes, Exact}
 use Rattle.forms.proofs.Facts.{sees_either, sees_kept, did_value, did_rest, did_bad, plain_append, clean_append, expected_clean, expected_both, keeps, goes_on, goes_after}
 use Rattle.forms.proofs.Beginnings.{sentences_both}
@@ -11,7 +10,6 @@ use Rattle.forms.proofs.Pair.{Went, whole, at_first, at_second, went, pair_near,
 
 module _ (T A B C : Type 0) (f : A → B → C) (L : Form T A) (M : Form T B) (p : Reader T A) (q : Reader T B) (e1 e2 : Bool) (b1 b2 m1 m2 : Set T)
     (X : Exact T A L p e1 b1 m1) (Y : Exact T B M q e2 b2 m2) (apart : Apart b2 m1) where
-
   abbrev joined : (us vs : List (Mark T)) (a : A) (b : B) → L us a → M vs b → both f L M (us ++ vs) (f a b)
   joined us vs a b l m = record { a = a; b = b; front = us; back = vs; cut = refl; left = l; right = m; made = refl }
 
@@ -46,6 +44,7 @@ module _ (T A B C : Type 0) (f : A → B → C) (L : Form T A) (M : Form T B) (p
     where
       by : (e' : Fault) (r : List T) → ◌≡◌ {A = Outcome T C} (bad e' r) (bad e rest) → (front : List (Mark T)) × (ts ≡ plain front ++ r) × IsClean front × Goes (both f L M) e' front r → (front : List (Mark T)) × (ts ≡ plain front ++ rest) × IsClean front × Goes (both f L M) e front rest
       by e' r g n = let P : Outcome T C → Type 0 = elim [ did a w ↦ ⊥ | bad z w ↦ (front : List (Mark T)) × (ts ≡ plain front ++ w) × IsClean front × Goes (both f L M) z front w ] in subst P g n
+
       go : Went T A B C f p q ts → (front : List (Mark T)) × (ts ≡ plain front ++ rest) × IsClean front × Goes (both f L M) e front rest
       go (whole a r b s hp hq hr) = absurd (did_bad (sym hr ∙ h))
       go (at_first e' r hp hr) = let u = X.viable ts r e' hp in
@@ -54,8 +53,12 @@ module _ (T A B C : Type 0) (f : A → B → C) (L : Form T A) (M : Form T B) (p
       go (at_second a r e' s hp hq hr) =
           let u = X.sound ts r a hp in
           let v = Y.viable r s e' hq in
-          by e' s (sym hr ∙ h) (u.0 ++ v.0, u.1 ∙ ap (λ w. plain u.0 ++ w) v.1 ∙ sym (append_assoc (plain u.0) (plain v.0) s) ∙ ap (λ w. w ++ s) (sym (plain_append u.0 v.0)), clean_append u.0 v.0 u.3 v.2,
-              goes_after M (both f L M) e' u.0 v.0 s (λ us b m. (f a b, joined u.0 us a b u.2 m)) v.3)
+          by e' s (sym hr ∙ h) (
+            u.0 ++ v.0,
+            u.1 ∙ ap (λ w. plain u.0 ++ w) v.1 ∙ sym (append_assoc (plain u.0) (plain v.0) s) ∙ ap (λ w. w ++ s) (sym (plain_append u.0 v.0)),
+            clean_append u.0 v.0 u.3 v.2,
+            goes_after M (both f L M) e' u.0 v.0 s (λ us b m. (f a b, joined u.0 us a b u.2 m)) v.3,
+          )
 
   -- read to the end
   done : (front r : List T) (x : T) (a : A) → p (front ++ x ∷ r) ≡ did a (x ∷ r) → p front ≡ did a []

@@ -1,9 +1,9 @@
 -- Facts on lists, sets, outcomes and marks.
-use Rattle.std.proofs.Common.{◌≡◌, ℕ, zero, suc, ◌+◌, ◌<◌, ◌≤◌, Bool, true, false, cond, not, ◌&&◌, ◌||◌, ◌⊎◌, inl, inr, List, [], ◌∷◌, ◌++◌, length, refl, sym, ◌∙◌, ap, subst, append_assoc, append-nil, length-append, arith}
+use Rattle.std.proofs.Common.{◌≡◌, ℕ, suc, Bool, true, false, cond, ◌&&◌, ◌||◌, ◌⊎◌, inl, inr, List, [], ◌∷◌, ◌++◌, length, refl, sym, ◌∙◌, ap, subst, append_assoc, length-append, arith}
 use Rattle.std.proofs.lemmas.List.{append_cancel_right}
 use Rattle.std.specs.Prelude.{Option, Some, None}
 use Rattle.forms.specs.Forms.{Mark, plain, IsClean, Form, Set, none, either, kept}
-use Rattle.forms.specs.Readers.{Fault, unexpected, limit, Outcome, did, bad, Reader, and_then, sees, rest_of, put, refuse, limit_at, read_both, read_or, read_one}
+use Rattle.forms.specs.Readers.{Fault, unexpected, limit, Outcome, did, bad, Reader, and_then, sees, rest_of, read_or}
 use Rattle.forms.specs.Exact.{marked, expected, Goes, Exact}
 
 -- ---- tests

@@ -1,10 +1,10 @@
 -- A form for which there may be no room, a form with its first token at hand, and a form said in another way.
 use Rattle.std.proofs.Common.{◌≡◌, ℕ, Bool, true, false, cond, ◌⊎◌, inl, inr, List, [], ◌∷◌, ◌++◌, refl, sym, ◌∙◌, ap, subst}
 use Rattle.std.specs.Prelude.{Option, Some, None}
-use Rattle.forms.specs.Forms.{Mark, plain, IsClean, Form, Set, none, Over, over, guard, Placed, placed, Begins, Sentence, Sentences}
+use Rattle.forms.specs.Forms.{Mark, plain, IsClean, Form, Set, Over, over, guard, placed, Begins, Sentence, Sentences}
 use Rattle.forms.specs.Readers.{Fault, unexpected, limit, Outcome, did, bad, Reader, sees, rest_of, put, limit_at, refuse, read_guard, placed_outcome, read_placed}
 use Rattle.forms.specs.Exact.{marked, expected, Goes, Exact}
-use Rattle.forms.proofs.Facts.{cases, sees_same, no_front, longer, did_value, did_rest, did_bad, goes_as}
+use Rattle.forms.proofs.Facts.{cases, sees_same, no_front, did_value, did_rest, did_bad, goes_as}
 use Rattle.forms.proofs.Beginnings.{sentences_over, sentences_placed, sentences_as, sentences_set}
 
 -- ---- no room
@@ -41,11 +41,14 @@ module _ (T A : Type 0) (number : T → ℕ) (L : Form T A) (b m : Set T) (X : S
     where
       by : (e' : Fault) → ◌≡◌ {A = Outcome T A} (bad e' ts) (bad e rest) → Goes (over number L) e' [] ts → Goal ts rest e
       by e' g n = let P : Outcome T A → Type 0 = elim [ did a w ↦ ⊥ | bad z w ↦ (front : List (Mark T)) × (ts ≡ plain front ++ w) × IsClean front × Goes (over number L) z front w ] in subst P g ([], refl, tt, n)
+
       begun : (us : List T) → sees b us ≡ true → (e' : Fault) × (limit_at {A = A} number us ≡ bad e' us) × Goes (over number L) e' [] us
       begun [] t = cc
       begun (x ∷ us) t = let u = X.starts x t in (limit (number x), refl, (u.1, u.2, record { token = (x, u.0); later = u.1; inside = u.3; is = refl }))
+
       some : Sentence T A (over number L)
       some = (sentences_over T A number L b X).some
+
       go : (sees b ts ≡ true) ⊎ (sees b ts ≡ false) → Goal ts rest e
       go (inl t) = let u = begun ts t in by u.0 (sym u.1 ∙ sym (passed ts t) ∙ h) u.2
       go (inr f) = by unexpected (sym (missed ts f) ∙ h) (some.tokens, some.value, some.spelled)
@@ -115,6 +118,7 @@ module _ (T A B : Type 0) (f : T → A → B) (L : Form T A) (p : Reader T A) (b
       made x ts r a [] e l k n g = cc
       made x ts r a (y ∷ front) e l k n g = let first : x ≡ y.0 = cc in
           (y ∷ front, e ∙ ap (λ w. plain (y ∷ front) ++ w) (did_rest g), record { token = y; later = front; a = a; is = refl; inside = l; made = sym (did_value g) ∙ ap (λ z. f z a) first }, k)
+
       go : (ts : List T) (o : Outcome T A) → p ts ≡ o → placed_outcome f ts o ≡ did c rest → Read ts rest c
       go ts (bad e r) k g = absurd (did_bad (sym g ∙ placed_fault ts e r))
       go [] (did a r) k g = absurd (none_read a r k)
@@ -142,8 +146,10 @@ module _ (T A B : Type 0) (f : T → A → B) (L : Form T A) (p : Reader T A) (b
       turn : (us : List (Mark T)) (a : A) → L us a → Begins false b (plain us) → (c : B) × placed f L us c
       turn [] a l n = cc
       turn (y ∷ us) a l n = (f y.0 a, record { token = y; later = us; a = a; is = refl; inside = l; made = refl })
+
       by : (ts : List T) (e' : Fault) (r : List T) → ◌≡◌ {A = Outcome T B} (bad e' r) (bad e rest) → Fails ts r e' → Fails ts rest e
       by ts e' r g n = let P : Outcome T B → Type 0 = elim [ did a w ↦ ⊥ | bad z w ↦ Fails ts w z ] in subst P g n
+
       go : (ts : List T) (o : Outcome T A) → p ts ≡ o → placed_outcome f ts o ≡ bad e rest → Fails ts rest e
       go ts (bad e' r) k g = let u = X.viable ts r e' k in by ts e' r (sym (placed_fault ts e' r) ∙ g) (u.0, u.1, u.2, goes_as L (placed f L) e' u.0 r (λ us a l. turn us a l (X.sentences.first us a l)) u.3)
       go [] (did a r) k g = absurd (none_read a r k)
@@ -178,6 +184,7 @@ module _ (T A B : Type 0) (f : T → A → B) (L : Form T A) (p : Reader T A) (b
     where
       by : (e : Fault) (w : List T) → ◌≡◌ {A = Outcome T B} (bad e w) (bad unexpected (x ∷ r)) → ◌≡◌ {A = Outcome T A} (bad e w) (bad unexpected (x ∷ r))
       by e w g = cc
+
       go : (ts : List T) (o : Outcome T A) → p ts ≡ o → ts ≡ front ++ x ∷ r → placed_outcome f ts o ≡ bad unexpected (x ∷ r) → read_placed f p front ≡ bad unexpected []
       go ts (bad e w) k q g = on front (bad unexpected []) (X.ends front r x (ap p (sym q) ∙ k ∙ by e w (sym (placed_fault ts e w) ∙ g))) ∙ placed_fault front unexpected []
       go [] (did a w) k q g = absurd (none_read a w k)

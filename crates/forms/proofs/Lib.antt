@@ -9,3 +9,4 @@ pub mod Turns
 pub mod ListLaws
 pub mod TrailLaws
 pub mod Answering
+pub mod Packs

@@ -1,17 +1,16 @@
 -- Any number of a form, with and without a separator.
-use Rattle.std.proofs.Common.{◌≡◌, ℕ, zero, suc, ◌+◌, ◌<◌, ◌≤◌, Bool, true, false, ◌&&◌, ◌||◌, ◌⊎◌, inl, inr, List, [], ◌∷◌, ◌++◌, length, refl, sym, ◌∙◌, ap, subst, append_assoc, append-nil, length-append, arith}
-use Rattle.std.specs.Prelude.{Option, Some, None}
-use Rattle.forms.specs.Forms.{Mark, plain, IsClean, Form, Set, none, either, kept, Apart, One, one, Both, both, nothing, Or, this, that, or, Cut, many, over, Begins, Sentence, Sentences}
-use Rattle.forms.specs.Readers.{Fault, unexpected, limit, Outcome, did, bad, Reader, and_then, sees, rest_of, put, read_one, read_both, read_or, read_nothing, read_turns, read_turned, read_one_more, read_many, refuse, cons}
-use Rattle.forms.specs.Exact.{expected, Goes, Exact}
-use Rattle.forms.specs.Lists.{second, pair, itself, Row, push, yes, trail, trailed, trail_upto, read_trailed, read_trail, read_trail_upto, one_more, many_upto, read_many_upto}
-use Rattle.forms.proofs.Facts.{cases, or_false, right_true, or_this, or_that, plain_append}
-use Rattle.forms.proofs.OneLaws.{one_exact, nothing_exact}
+use Rattle.std.proofs.Common.{◌≡◌, ℕ, zero, suc, ◌<◌, Bool, true, false, ◌||◌, ◌⊎◌, inl, inr, List, [], ◌∷◌, ◌++◌, length, refl, sym, ◌∙◌, ap, subst, length-append, arith}
+use Rattle.forms.specs.Forms.{Mark, plain, Form, Set, none, either, kept, Apart, both, nothing, this, that, many, Begins}
+use Rattle.forms.specs.Readers.{Outcome, did, bad, Reader, sees, read_both, read_or, read_nothing, read_one_more, read_many, cons}
+use Rattle.forms.specs.Exact.{Exact}
+use Rattle.forms.specs.Lists.{one_more, many_upto, read_many_upto}
+use Rattle.forms.proofs.Facts.{cases, or_false, or_this, or_that}
+use Rattle.forms.proofs.OneLaws.{nothing_exact}
 use Rattle.forms.proofs.Pair.{both_at_first, both_then}
 use Rattle.forms.proofs.BothLaws.{both_exact}
 use Rattle.forms.proofs.OrLaws.{or_exact}
-use Rattle.forms.proofs.GuardLaws.{exact_as, exact_sets, over_exact}
-use Rattle.forms.proofs.Turns.{Within, Turn, turns, turned, shorter, turned_exact}
+use Rattle.forms.proofs.GuardLaws.{exact_as, exact_sets}
+use Rattle.forms.proofs.Turns.{Within, turns, turned, shorter, turned_exact}
 
 -- ---- sets
 
@@ -77,11 +76,11 @@ module _ (T A : Type 0) (L : Form T A) (p : Reader T A) (b m : Set T) (X : Exact
         → Exact T (List A) (one_more M K) (read_one_more b r q) true b n
     more_next_with M r Z n Y h g =
         let w = exact_sets T (List A) (both cons M K) (read_both cons r q) false _ _ b (either n (kept true m)) (λ x. or_no (b x)) (λ x k. k)
-            (both_exact T A (List A) (List A) cons M K r q false true b c m n Z Y apart) in
+        (both_exact T A (List A) (List A) cons M K r q false true b c m n Z Y apart) in
         let z = or_exact T (List A) (both cons M K) (nothing []) (read_both cons r q) (read_nothing []) true b none (either n (kept true m)) none w (nothing_exact T (List A) []) (λ x k. cc) in
         exact_sets T (List A) (one_more M K) (read_one_more b r q) true _ _ b n (λ x. or_no (b x))
-            (λ x k. or_off (either (either n (kept true m)) none x) (kept true b x)
-                (or_off (either n (kept true m) x) false (or_off (n x) (m x) k (h x k)) refl) (g x k)) z
+        (λ x k. or_off (either (either n (kept true m)) none x) (kept true b x)
+        (or_off (either n (kept true m) x) false (or_off (n x) (m x) k (h x k)) refl) (g x k)) z
 
     pub more_next : (n : Set T) → Exact T (List A) K q true c n → ((x : T) → n x ≡ false → m x ≡ false) → ((x : T) → n x ≡ false → b x ≡ false) → Exact T (List A) (one_more L K) (read_one_more b p q) true b n
     more_next n = more_next_with L p X n

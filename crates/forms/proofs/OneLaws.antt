@@ -1,7 +1,7 @@
 -- One token, and none.
-use Rattle.std.proofs.Common.{◌≡◌, ℕ, Bool, true, false, cond, ◌⊎◌, inl, inr, List, [], ◌∷◌, ◌++◌, refl, sym, ◌∙◌, ap, subst}
-use Rattle.std.specs.Prelude.{Option, Some, None}
-use Rattle.forms.specs.Forms.{Mark, plain, IsClean, Form, Set, none, One, one, nothing}
+use Rattle.std.proofs.Common.{◌≡◌, true, false, cond, ◌⊎◌, inl, inr, List, [], ◌∷◌, ◌++◌, refl, sym, ◌∙◌, ap}
+use Rattle.std.specs.Prelude.{None}
+use Rattle.forms.specs.Forms.{Mark, plain, IsClean, Set, none, one, nothing}
 use Rattle.forms.specs.Readers.{Fault, unexpected, limit, Outcome, did, bad, rest_of, put, sees, read_one, read_nothing}
 use Rattle.forms.specs.Exact.{expected, Goes, Exact}
 use Rattle.forms.proofs.Facts.{cases, longer, no_front, did_value, did_rest, did_bad}

@@ -1,8 +1,8 @@
 -- One of two forms.
-use Rattle.std.proofs.Common.{◌≡◌, ℕ, Bool, true, false, ◌&&◌, ◌||◌, ◌⊎◌, inl, inr, List, [], ◌∷◌, ◌++◌, refl, sym, ◌∙◌, ap, append-nil}
+use Rattle.std.proofs.Common.{◌≡◌, ℕ, Bool, true, false, ◌⊎◌, inl, inr, List, [], ◌∷◌, ◌++◌, refl, sym, ◌∙◌, ap, append-nil}
 use Rattle.std.specs.Prelude.{Option, Some, None}
-use Rattle.forms.specs.Forms.{Mark, plain, IsClean, Form, Set, none, either, kept, Apart, Or, this, that, or, Begins, Sentences}
-use Rattle.forms.specs.Readers.{Fault, unexpected, limit, Outcome, did, bad, Reader, sees, rest_of, put, read_or}
+use Rattle.forms.specs.Forms.{Mark, plain, IsClean, Form, Set, either, kept, Apart, this, that, or, Begins}
+use Rattle.forms.specs.Readers.{Fault, unexpected, Outcome, did, bad, Reader, sees, rest_of, put, read_or}
 use Rattle.forms.specs.Exact.{marked, expected, Goes, Exact}
 use Rattle.forms.proofs.Facts.{cases, sees_either, sees_kept, sees_same, did_bad, bad_limit, or_this, or_that, goes_as}
 use Rattle.forms.proofs.Beginnings.{sentences_or}
@@ -24,7 +24,6 @@ module _ (T A : Type 0) (L : Form T A) (p : Reader T A) (e : Bool) (b m : Set T)
 
 module _ (T A : Type 0) (L M : Form T A) (p q : Reader T A) (e2 : Bool) (b1 b2 m1 m2 : Set T)
     (X : Exact T A L p false b1 m1) (Y : Exact T A M q e2 b2 m2) (apart : Apart b2 b1) where
-
   sound : (ts rest : List T) (a : A) → read_or b1 p q ts ≡ did a rest → (front : List (Mark T)) × (ts ≡ plain front ++ rest) × or L M front a × IsClean front
   sound ts rest a h = go (cases (sees b1 ts))
     where

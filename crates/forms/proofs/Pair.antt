@@ -1,7 +1,7 @@
 -- One form after another: what is said of the readers alone.
-use Rattle.std.proofs.Common.{◌≡◌, ℕ, Bool, true, false, List, [], ◌∷◌, ◌++◌, refl, sym, ◌∙◌, ap, subst, append_assoc, append-nil}
+use Rattle.std.proofs.Common.{◌≡◌, List, [], ◌∷◌, ◌++◌, refl, sym, ◌∙◌, ap, append_assoc, append-nil}
 use Rattle.std.proofs.lemmas.List.{append_cancel_right}
-use Rattle.forms.specs.Readers.{Fault, unexpected, limit, Outcome, did, bad, Reader, and_then, rest_of, put, read_both}
+use Rattle.forms.specs.Readers.{Fault, unexpected, Outcome, did, bad, Reader, and_then, rest_of, put, read_both}
 use Rattle.forms.proofs.Facts.{did_bad}
 
 -- ---- what happens
@@ -25,6 +25,7 @@ went {T} {A} {B} {C} f p q ts = go (p ts) refl
     next : (a : A) (r : List T) → p ts ≡ did a r → (o : Outcome T B) → q r ≡ o → Went T A B C f p q ts
     next a r h (did b s) g = whole a r b s h g (both_then f p q ts r a (did b s) h g)
     next a r h (bad e s) g = at_second a r e s h g (both_then f p q ts r a (bad e s) h g)
+
     go : (o : Outcome T A) → p ts ≡ o → Went T A B C f p q ts
     go (did a r) h = next a r h (q r) refl
     go (bad e r) h = at_first e r h (both_at_first f p q ts r e h)
@@ -36,11 +37,10 @@ module _ (T A B C : Type 0) (f : A → B → C) (p : Reader T A) (q : Reader T B
     (np : (front mid r s : List T) (x : T) → rest_of (p (front ++ (mid ++ x ∷ r))) ≡ mid ++ x ∷ r → p (front ++ (mid ++ x ∷ s)) ≡ put (mid ++ x ∷ s) (p (front ++ (mid ++ x ∷ r))))
     (ep : (front r : List T) (x : T) → p (front ++ x ∷ r) ≡ bad unexpected (x ∷ r) → p front ≡ bad unexpected [])
     (dp : (front r : List T) (x : T) (a : A) → p (front ++ x ∷ r) ≡ did a (x ∷ r) → p front ≡ did a []) where
-
   pub pair_near : (front mid r s : List T) (x : T)
       → ((a : A) (w : List T) → p (front ++ (mid ++ x ∷ r)) ≡ did a w → (v : List T) × (w ≡ v ++ rest_of (q w)))
       → ((a : A) (v : List T) → p (front ++ (mid ++ x ∷ r)) ≡ did a (v ++ (mid ++ x ∷ r)) → rest_of (q (v ++ (mid ++ x ∷ r))) ≡ mid ++ x ∷ r
-          → q (v ++ (mid ++ x ∷ s)) ≡ put (mid ++ x ∷ s) (q (v ++ (mid ++ x ∷ r))))
+      → q (v ++ (mid ++ x ∷ s)) ≡ put (mid ++ x ∷ s) (q (v ++ (mid ++ x ∷ r))))
       → rest_of (read_both f p q (front ++ (mid ++ x ∷ r))) ≡ mid ++ x ∷ r
       → read_both f p q (front ++ (mid ++ x ∷ s)) ≡ put (mid ++ x ∷ s) (read_both f p q (front ++ (mid ++ x ∷ r)))
   pair_near front mid r s x kq nq h = go (went f p q (front ++ (mid ++ x ∷ r)))
@@ -58,6 +58,7 @@ module _ (T A B C : Type 0) (f : A → B → C) (p : Reader T A) (q : Reader T B
           let hq2 : q (v.0 ++ (mid ++ x ∷ r)) ≡ o = ap q (sym we) ∙ hq in
           let n2 = nq a v.0 (hp ∙ ap (λ z. did a z) we) (ap rest_of hq2 ∙ ho) in
           both_then f p q _ _ a (put (mid ++ x ∷ s) o) p3 (n2 ∙ ap (λ z. put (mid ++ x ∷ s) z) hq2)
+
       go : Went T A B C f p q (front ++ (mid ++ x ∷ r)) → read_both f p q (front ++ (mid ++ x ∷ s)) ≡ put (mid ++ x ∷ s) (read_both f p q (front ++ (mid ++ x ∷ r)))
       go (whole a w b t hp hq hr) = inner a w hp (did b t) hq (sym (ap rest_of hr) ∙ h) ∙ sym (ap (λ z. put (mid ++ x ∷ s) z) hr)
       go (at_first e w hp hr) = let n = np front mid r s x (ap rest_of hp ∙ sym (ap rest_of hr) ∙ h) in
@@ -72,9 +73,11 @@ module _ (T A B C : Type 0) (f : A → B → C) (p : Reader T A) (q : Reader T B
     where
       by : (e : Fault) (s : List T) → ◌≡◌ {A = Outcome T C} (bad e s) (bad unexpected (x ∷ r)) → (e ≡ unexpected) × (s ≡ x ∷ r)
       by e s g = (cc, cc)
+
       short : (us vs : List T) (a : A) → p (us ++ (vs ++ x ∷ r)) ≡ did a (vs ++ x ∷ r) → p (us ++ vs) ≡ did a vs
       short us [] a h = ap p (append-nil us) ∙ dp us r x a h
       short us (y ∷ vs) a h = np us [] (vs ++ x ∷ r) vs y (ap rest_of h) ∙ ap (λ z. put (y ∷ vs) z) h
+
       go : Went T A B C f p q (front ++ x ∷ r) → read_both f p q front ≡ bad unexpected []
       go (whole a w b t hp hq hr) = absurd (did_bad (sym hr ∙ h))
       go (at_first e w hp hr) = let g = by e w (sym hr ∙ h) in

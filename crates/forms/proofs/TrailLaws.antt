@@ -1,16 +1,16 @@
 -- Lists with a separator between their items, that may also stand behind the last.
-use Rattle.std.proofs.Common.{◌≡◌, ℕ, zero, suc, ◌+◌, ◌<◌, ◌≤◌, Bool, true, false, ◌&&◌, ◌||◌, ◌⊎◌, inl, inr, List, [], ◌∷◌, ◌++◌, length, refl, sym, ◌∙◌, ap, subst, append_assoc, append-nil, length-append, arith}
-use Rattle.std.specs.Prelude.{Option, Some, None}
-use Rattle.forms.specs.Forms.{Mark, plain, IsClean, Form, Set, none, either, kept, Apart, One, one, Both, both, nothing, Or, this, that, or, Cut, many, over, Begins, Sentence, Sentences}
-use Rattle.forms.specs.Readers.{Fault, unexpected, limit, Outcome, did, bad, Reader, and_then, sees, rest_of, put, read_one, read_both, read_or, read_nothing, read_turns, read_turned, refuse}
-use Rattle.forms.specs.Exact.{expected, Goes, Exact}
-use Rattle.forms.specs.Lists.{second, pair, itself, Row, push, yes, trail, trailed, trail_upto, read_trailed, read_trail, read_trail_upto}
-use Rattle.forms.proofs.Facts.{cases, or_false}
+use Rattle.std.proofs.Common.{◌≡◌, ℕ, zero, suc, ◌<◌, ◌≤◌, Bool, true, false, ◌||◌, List, [], ◌∷◌, ◌++◌, length, refl, sym, ◌∙◌, ap, append_assoc, length-append, arith}
+use Rattle.std.specs.Prelude.{None}
+use Rattle.forms.specs.Forms.{Mark, Form, Set, none, either, kept, Apart, one, both, nothing, this, that, or, many, over}
+use Rattle.forms.specs.Readers.{Reader, read_one, read_both, read_or, read_nothing, refuse}
+use Rattle.forms.specs.Exact.{Exact}
+use Rattle.forms.specs.Lists.{second, itself, Row, push, yes, trail, trailed, trail_upto, read_trailed, read_trail, read_trail_upto}
+use Rattle.forms.proofs.Facts.{or_false}
 use Rattle.forms.proofs.OneLaws.{one_exact, nothing_exact}
 use Rattle.forms.proofs.BothLaws.{both_exact}
 use Rattle.forms.proofs.OrLaws.{or_exact}
 use Rattle.forms.proofs.GuardLaws.{exact_as, exact_sets, over_exact}
-use Rattle.forms.proofs.Turns.{Within, Turn, turns, turned, shorter, turned_exact}
+use Rattle.forms.proofs.Turns.{Within, turns, turned, shorter, turned_exact}
 use Rattle.forms.proofs.ListLaws.{or_no, or_off, same_second, same_that, takes_one, less_left}
 
 -- ---- the form by turns is the form by its parts
@@ -37,8 +37,16 @@ module _ (T A : Type 0) (sep : Set T) (L : Form T A) where
   unfolding trail
   trail_next x h us vs a row l t =
       let here : item ((x, None) ∷ us) a = record { a = x; b = a; front = (x, None) ∷ []; back = us; cut = refl; left = record { token = x; is = refl; fits = h; made = refl }; right = l; made = refl } in
-      record { a = a ∷ t.a; b = t.b; front = ((x, None) ∷ us) ++ t.front; back = t.back; cut = ap (λ w. (x, None) ∷ (us ++ w)) t.cut ∙ sym (append_assoc ((x, None) ∷ us) t.front t.back);
-          left = record { front = (x, None) ∷ us; back = t.front; cut = refl; left = here; right = t.left }; right = t.right; made = ap (push a) t.made }
+      record {
+        a = a ∷ t.a;
+        b = t.b;
+        front = ((x, None) ∷ us) ++ t.front;
+        back = t.back;
+        cut = ap (λ w. (x, None) ∷ (us ++ w)) t.cut ∙ sym (append_assoc ((x, None) ∷ us) t.front t.back);
+        left = record { front = (x, None) ∷ us; back = t.front; cut = refl; left = here; right = t.left };
+        right = t.right;
+        made = ap (push a) t.made;
+      }
 
   behind : (x : T) → sep x ≡ true → (K : Form T (Row A)) → Within K (trail sep L) → (us : List (Mark T)) (row : Row A) → after K us row → trail sep L ((x, None) ∷ us) row
   behind x h K ih us row (that l) = rw (l.0, l.1) (trail_last x h)
@@ -64,9 +72,19 @@ module _ (T A : Type 0) (sep : Set T) (L : Form T A) where
       let ih = built more l.back vs last l.right r in
       let x = l.left.left.token in
       let e : us ++ vs ≡ (x, None) ∷ (l.left.back ++ (l.back ++ vs)) =
-          ap (λ w. w ++ vs) (l.cut ∙ ap (λ w. w ++ l.back) (l.left.cut ∙ ap (λ w. w ++ l.left.back) l.left.left.is)) ∙ append_assoc ((x, None) ∷ l.left.back) l.back vs in
-      (suc ih.0, this (record { a = x; b = (a ∷ more, last); front = (x, None) ∷ []; back = l.left.back ++ (l.back ++ vs); cut = e; left = record { token = x; is = refl; fits = l.left.left.fits; made = refl };
-          right = this (record { a = l.left.b; b = (more, last); front = l.left.back; back = l.back ++ vs; cut = refl; left = l.left.right; right = ih.1; made = ap (λ z. (z ∷ more, last)) l.left.made }); made = refl }))
+      ap (λ w. w ++ vs) (l.cut ∙ ap (λ w. w ++ l.back) (l.left.cut ∙ ap (λ w. w ++ l.left.back) l.left.left.is)) ∙ append_assoc ((x, None) ∷ l.left.back) l.back vs in (
+        suc ih.0,
+        this (record {
+          a = x;
+          b = (a ∷ more, last);
+          front = (x, None) ∷ [];
+          back = l.left.back ++ (l.back ++ vs);
+          cut = e;
+          left = record { token = x; is = refl; fits = l.left.left.fits; made = refl };
+          right = this (record { a = l.left.b; b = (more, last); front = l.left.back; back = l.back ++ vs; cut = refl; left = l.left.right; right = ih.1; made = ap (λ z. (z ∷ more, last)) l.left.made });
+          made = refl;
+        }),
+      )
 
   pub back : (us : List (Mark T)) (row : Row A) → trail sep L us row → turned (trailed sep L) ([], false) us row
   unfolding trail
@@ -112,17 +130,17 @@ module _ (T A : Type 0) (sep : Set T) (sample : T) (fits : sep sample ≡ true) 
     pub next_with : (M : Form T A) (r : Reader T A) → Exact T A M r false b m → Exact T (Row A) (trailed sep M K) (read_trailed sep b r q) true sep n
     next_with M r Z =
         let item = exact_sets T (Row A) (both push M K) (read_both push r q) false _ _ b n (λ x. or_no (b x)) (λ x k. or_off (n x) (m x) k (more_m x k))
-            (both_exact T A (Row A) (Row A) push M K r q false true b c m n Z Y apart) in
+        (both_exact T A (Row A) (Row A) push M K r q false true b c m n Z Y apart) in
         let choice = exact_sets T (Row A) (or (both push M K) (nothing ([], true))) (read_or b (read_both push r q) (read_nothing ([], true))) true _ _ b n (λ x. or_no (b x))
-            (λ x k. or_off (either n none x) (kept true b x) (or_off (n x) false k refl) (more_b x k))
-            (or_exact T (Row A) (both push M K) (nothing ([], true)) (read_both push r q) (read_nothing ([], true)) true b none n none item (nothing_exact T (Row A) ([], true)) (λ x k. cc)) in
+        (λ x k. or_off (either n none x) (kept true b x) (or_off (n x) false k refl) (more_b x k))
+        (or_exact T (Row A) (both push M K) (nothing ([], true)) (read_both push r q) (read_nothing ([], true)) true b none n none item (nothing_exact T (Row A) ([], true)) (λ x k. cc)) in
         let rest = exact_sets T (Row A) (both second (one sep itself) (or (both push M K) (nothing ([], true)))) (read_both second (read_one sep itself) (read_or b (read_both push r q) (read_nothing ([], true)))) false _ _ sep n
-            (λ x. or_no (sep x)) (λ x k. or_off (n x) false k refl)
-            (both_exact T T (Row A) (Row A) second (one sep itself) (or (both push M K) (nothing ([], true))) (read_one sep itself) (read_or b (read_both push r q) (read_nothing ([], true))) false true sep b none n mark_exact choice (λ x k. refl)) in
+        (λ x. or_no (sep x)) (λ x k. or_off (n x) false k refl)
+        (both_exact T T (Row A) (Row A) second (one sep itself) (or (both push M K) (nothing ([], true))) (read_one sep itself) (read_or b (read_both push r q) (read_nothing ([], true))) false true sep b none n mark_exact choice (λ x k. refl)) in
         exact_sets T (Row A) (trailed sep M K) (read_trailed sep b r q) true _ _ sep n (λ x. or_no (sep x))
-            (λ x k. or_off (either n none x) (kept true sep x) (or_off (n x) false k refl) (more_sep x k))
-            (or_exact T (Row A) (both second (one sep itself) (or (both push M K) (nothing ([], true)))) (nothing ([], false)) (read_both second (read_one sep itself) (read_or b (read_both push r q) (read_nothing ([], true)))) (read_nothing ([], false))
-                true sep none n none rest (nothing_exact T (Row A) ([], false)) (λ x k. cc))
+        (λ x k. or_off (either n none x) (kept true sep x) (or_off (n x) false k refl) (more_sep x k))
+        (or_exact T (Row A) (both second (one sep itself) (or (both push M K) (nothing ([], true)))) (nothing ([], false)) (read_both second (read_one sep itself) (read_or b (read_both push r q) (read_nothing ([], true)))) (read_nothing ([], false))
+        true sep none n none rest (nothing_exact T (Row A) ([], false)) (λ x k. cc))
 
   module _ (apart : Apart sep m) where
     abbrev goes : Set T

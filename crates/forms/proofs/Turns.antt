@@ -1,9 +1,8 @@
 -- A form that may take any number of turns: each turn takes a token, so there are no more of them than tokens.
-use Rattle.std.proofs.Common.{◌≡◌, ℕ, zero, suc, ◌+◌, ◌<◌, ◌≤◌, max, Bool, true, false, List, [], ◌∷◌, ◌++◌, length, refl, sym, ◌∙◌, ap, subst, append-nil, length-append, arith}
-use Rattle.std.specs.Prelude.{Option, Some, None}
-use Rattle.forms.specs.Forms.{Mark, plain, IsClean, Form, Set, none, nothing, Begins, Sentences}
-use Rattle.forms.specs.Readers.{Fault, unexpected, limit, Outcome, did, bad, Reader, sees, rest_of, put, read_nothing, read_turns, read_turned}
-use Rattle.forms.specs.Exact.{expected, Goes, Exact}
+use Rattle.std.proofs.Common.{◌≡◌, ℕ, zero, suc, ◌<◌, ◌≤◌, max, true, false, List, [], ◌∷◌, ◌++◌, length, refl, sym, ◌∙◌, ap, length-append, arith}
+use Rattle.forms.specs.Forms.{Mark, plain, Form, Set, nothing, Sentences}
+use Rattle.forms.specs.Readers.{unexpected, bad, Reader, sees, rest_of, put, read_nothing, read_turns, read_turned}
+use Rattle.forms.specs.Exact.{expected, Exact}
 use Rattle.forms.proofs.Facts.{plain_length, goes_as}
 
 -- what a turn is, over what may come after it
@@ -31,7 +30,6 @@ module _ (T A : Type 0) (F : Turn T A) (G : Reader T A → Reader T A) (v : A) (
     (local : (p q : Reader T A) (ts : List T) → ((us : List T) → length us < length ts → p us ≡ q us) → G p ts ≡ G q ts)
     (exact_first : Exact T A (F (nothing v)) (G (read_nothing v)) true b m)
     (exact_next : (L : Form T A) (p : Reader T A) → Exact T A L p true b m → Exact T A (F L) (G p) true b m) where
-
   pub up : (n k : ℕ) → n ≤ k → Within (turns n F v) (turns k F v)
   up zero zero h us a l = l
   up zero (suc k) h us a l = least (turns k F v) us a l

@@ -1,5 +1,5 @@
 -- What it is for a reader to be exact for a form, and what an exact reader answers.
-use Rattle.std.specs.Prelude.{◌≡◌, ℕ, zero, suc, Bool, true, false, List, [], ◌∷◌, ◌++◌, Option, Some, None}
+use Rattle.std.specs.Prelude.{◌≡◌, ℕ, Bool, false, List, [], ◌∷◌, ◌++◌, Option, Some, None}
 use Rattle.forms.specs.Forms.{Mark, plain, IsClean, Form, Set, Sentences}
 use Rattle.forms.specs.Readers.{Fault, unexpected, limit, Outcome, did, bad, Reader, sees, rest_of, put}
 

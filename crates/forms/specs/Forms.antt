@@ -1,6 +1,6 @@
 -- Forms of a grammar: which tokens spell which values, and at which of these tokens a limit is passed.
 -- The combinators are those of the extended Backus-Naur form (ISO/IEC 14977); the marks are the project's own.
-use Rattle.std.specs.Prelude.{◌≡◌, ℕ, zero, suc, Bool, true, false, not, ◌&&◌, ◌||◌, List, [], ◌∷◌, ◌++◌, Option, Some, None}
+use Rattle.std.specs.Prelude.{◌≡◌, ℕ, Bool, true, false, ◌&&◌, ◌||◌, List, [], ◌∷◌, ◌++◌, Option, Some, None}
 
 -- a token, and the number of the limit that is passed at it
 abbrev pub Mark : Type 0 → Type 0

@@ -1,5 +1,5 @@
 -- Lists with a separator between their items, and lists of which only so many items may stand.
-use Rattle.std.specs.Prelude.{◌≡◌, ℕ, zero, suc, Bool, true, false, List, [], ◌∷◌, ◌++◌}
+use Rattle.std.specs.Prelude.{ℕ, zero, suc, Bool, true, false, List, [], ◌∷◌}
 use Rattle.forms.specs.Forms.{Form, Set, one, both, nothing, or, many, over}
 use Rattle.forms.specs.Readers.{Reader, cons, read_one, read_both, read_or, read_nothing, read_turned, read_one_more, read_many, refuse}
 

@@ -1,5 +1,5 @@
 -- Readers of forms: they go through the tokens once, and look one token ahead.
-use Rattle.std.specs.Prelude.{◌≡◌, ℕ, zero, suc, Bool, true, false, cond, List, [], ◌∷◌, ◌++◌, length}
+use Rattle.std.specs.Prelude.{ℕ, zero, suc, Bool, true, false, cond, List, [], ◌∷◌, length}
 use Rattle.forms.specs.Forms.{Set}
 
 -- why a reader stops: no sentence goes on with the next token, or it passes the limit of that number
