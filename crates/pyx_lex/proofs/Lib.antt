@@ -1,0 +1,10 @@
+mod Boundaries
+mod Digits
+mod Escapes
+mod Few
+mod Forward
+mod Fronts
+mod Normal
+mod OpenWidths
+mod Order
+mod Reading

@@ -1,0 +1,11 @@
+pub mod Blanks
+pub mod Breaches
+pub mod Laid
+pub mod Layout
+pub mod Levels
+pub mod Names
+pub mod Numbers
+pub mod Pieces
+pub mod Signs
+pub mod Strings
+pub mod Tokens
