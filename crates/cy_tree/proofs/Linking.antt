@@ -1,11 +1,11 @@
 -- The links of a tree's nodes, child by child.
-use Rattle.std.proofs.Common.{◌≡◌, ℕ, zero, suc, ◌+◌, ◌<◌, ◌≤◌, List, [], ◌∷◌, ◌++◌, length, take, drop, Option, Some, None, refl, ap, sym, subst, ◌∙◌, slice_get, arith, length-append, inl, inr}
+use Rattle.std.proofs.Common.{◌≡◌, ℕ, zero, suc, ◌+◌, ◌<◌, ◌≤◌, List, [], ◌∷◌, ◌++◌, length, take, drop, append_assoc, Option, Some, None, refl, ap, sym, subst, ◌∙◌, slice_get, arith, length-append, inl, inr}
 use Rattle.std.proofs.lemmas.List.{take_all}
 use Rattle.std.specs.Prelude.{◌⊎◌}
 use Rattle.cy_tree.specs.declared.file.Link.{Link}
 use Rattle.cy_tree.specs.Nodes.{Tree, nodes, children, Numbered, Whole, Inside}
 use Rattle.cy_tree.specs.Links.{IsLinked, AreLinks}
-use Rattle.cy_tree.proofs.Counts.{inside, inside-append, nodes-children}
+use Rattle.cy_tree.proofs.Counts.{inside, inside-append, nodes-children, nodes-some}
 use Rattle.cy_tree.proofs.Numbers.{Numbered-below}
 
 -- the links of the nodes in the first children
@@ -96,6 +96,7 @@ more_links base root place done more c linked e below =
       where
         some_is : Some (record { outer = base; place = place }) ≡ Some l → record { outer = base; place = place } ≡ l
         some_is h = cc
+
         own : record { outer = base; place = place } ≡ l → IsLinked base root (suc k) l
         own same = subst (λ (x : Link). IsLinked base root (suc k) x) same (record {
           node = c;
@@ -111,6 +112,7 @@ more_links base root place done more c linked e below =
         subst (λ i. IsLinked base root i l) (omega (arith, here, linked.all))
         (raised base root c (suc (inside (take place (children root)))) (suc j) l (child_number root place c e)
         (subst (λ b. IsLinked b c (suc j) l) (omega (arith, linked.all)) (below.each j l h)))
+
     of_each : {k : ℕ} {l : Link} → (slice_get done k ≡ Some l) ⊎ ((j : ℕ) × (k ≡ length done + j) × (slice_get (record { outer = base; place = place } ∷ more) j ≡ Some l)) → IsLinked base root (suc k) l
     of_each {k} {l} (inl h) = linked.each k l h
     of_each {k} {l} (inr h) = of_rest k l h.0 h.1 h.2
@@ -121,3 +123,41 @@ pub all_links : (base : ℕ) (root : Tree) (place : ℕ) (links : List Link) →
 all_links base root place links linked e =
     let whole = is_past (children root) place e in
     record { all = omega (arith, linked.all, nodes-children root, ap inside (take_all place (children root) whole)); each = linked.each }
+
+-- a child has fewer nodes
+pub child_smaller : (root : Tree) (place : ℕ) (c : Tree) → slice_get (children root) place ≡ Some c → nodes c < nodes root
+child_smaller root place c e =
+    omega (arith, nodes-children root, ap inside (parts_at (children root) place c e), inside-append (take place (children root)) (c ∷ drop (suc place) (children root)))
+
+joined : (init loop pushed new done more : List Link) (link : Link) → loop ≡ init ++ done → pushed ≡ loop ++ link ∷ [] → new ≡ pushed ++ more → new ≡ init ++ (done ++ link ∷ more)
+joined init loop pushed new done more link a b c =
+    c ∙ ap (λ xs. xs ++ more) (b ∙ ap (λ xs. xs ++ link ∷ []) a) ∙ append_assoc (init ++ done) (link ∷ []) more ∙ append_assoc init done (link ∷ more)
+
+-- one child more
+pub linked_on : (init loop pushed new done more : List Link) (root c : Tree) (outer place : ℕ) → loop ≡ init ++ done
+    → pushed ≡ loop ++ record { outer = outer; place = place } ∷ [] → new ≡ pushed ++ more → outer ≡ length init
+    → AreLinked (length init) root place done → slice_get (children root) place ≡ Some c → AreLinks (length pushed) c more
+    → (x : List Link) × (new ≡ init ++ x) × AreLinked (length init) root (place + 1) x
+linked_on init loop pushed new done more root c outer place a b e here linked child below =
+    let link : Link = record { outer = length init; place = place } in
+    let b' : pushed ≡ loop ++ link ∷ [] = subst (λ o. pushed ≡ loop ++ record { outer = o; place = place } ∷ []) here b in
+    let count : length pushed ≡ suc (length init + length done) = omega (arith, ap length a, ap length b', length-append init done, length-append loop (link ∷ [])) in (
+      done ++ link ∷ more,
+      joined init loop pushed new done more link a b' e,
+      subst (λ k. AreLinked (length init) root k (done ++ link ∷ more)) (omega arith)
+          (more_links (length init) root place done more c linked child (subst (λ n. AreLinks n c more) count below)),
+    )
+
+-- each child has a node at least
+at_least : (ts : List Tree) (k : ℕ) → k ≤ length ts → k ≤ inside (take k ts)
+at_least ts zero h = omega arith
+at_least [] (suc k) h = absurd (omega (arith, h))
+at_least (t ∷ ts) (suc k) h = omega (arith, nodes-some t, at_least ts k (omega (arith, h)))
+
+pub place_within : (base : ℕ) (root : Tree) (place : ℕ) (links : List Link) → AreLinked base root place links → place ≤ length links
+place_within base root place links linked = omega (arith, linked.all, at_least (children root) place linked.within)
+
+-- a child comes behind its node and the children before it
+pub child_follows : (root : Tree) (n : ℕ) (t : Tree) (place : ℕ) (c : Tree) → Numbered root n t → slice_get (children t) place ≡ Some c
+    → Numbered root (suc (n + inside (take place (children t)))) c
+child_follows root n t place c at e = Inside at (take place (children t)) c (drop (suc place) (children t)) (parts_at (children t) place c e)

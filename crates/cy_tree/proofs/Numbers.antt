@@ -1,5 +1,6 @@
 -- Each number below a tree's count is that of one node.
-use Rattle.std.proofs.Common.{◌≡◌, ℕ, zero, suc, ◌+◌, ◌-◌, ◌<◌, ◌≤◌, List, [], ◌∷◌, ◌++◌, map, length, Option, Some, None, refl, ap, sym, subst, ◌∙◌, slice_get, arith}
+use Rattle.std.proofs.Common.{◌≡◌, ℕ, zero, suc, ◌+◌, ◌-◌, ◌<◌, ◌≤◌, List, [], ◌∷◌, ◌++◌, map, length, Option, Some, None, refl, ap, sym, subst, ◌∙◌, slice_get, append_assoc, inl, inr, arith}
+use Rattle.std.specs.Prelude.{◌⊎◌}
 use Rattle.cy_tree.specs.Nodes.{Tree, total, nodes, children, Numbered, Whole, Inside}
 use Rattle.cy_tree.proofs.Counts.{inside, inside-append, nodes-children, nodes-some}
 
@@ -73,3 +74,51 @@ unique_to (suc bound) root n t u small at also =
 -- a number is that of one node
 pub Numbered-unique : (root : Tree) (n : ℕ) (t u : Tree) → Numbered root n t → Numbered root n u → t ≡ u
 Numbered-unique root n t u at also = unique_to (nodes root) root n t u (omega arith) at also
+
+-- ---- every number
+
+below_or : (m n : ℕ) → (m < n) ⊎ (n ≤ m)
+below_or m zero = inr (omega arith)
+below_or zero (suc n) = inl (omega arith)
+below_or (suc m) (suc n) = step (below_or m n)
+  where
+    step : (m < n) ⊎ (n ≤ m) → (suc m < suc n) ⊎ (suc n ≤ suc m)
+    step (inl h) = inl (omega (arith, h))
+    step (inr h) = inr (omega (arith, h))
+
+abbrev Exists : Tree → ℕ → Type 0
+Exists root k = (t : Tree) × Numbered root k t
+
+among : (root : Tree) (before rest : List Tree) (m : ℕ) → children root ≡ before ++ rest → m < inside rest
+    → ((c : Tree) (j : ℕ) → nodes c < nodes root → j < nodes c → Exists c j) → Exists root (suc (inside before + m))
+among root before [] m e low again = absurd (omega (arith, low))
+among root before (c ∷ rest) m e low again =
+    by_size (below_or m (nodes c)) (λ e' low'. among root (before ++ c ∷ []) rest (m - nodes c) e' low' again)
+  where
+    smaller : nodes c < nodes root
+    smaller = omega (arith, nodes-children root, ap inside e, inside-append before (c ∷ rest))
+
+    here : m < nodes c → Exists root (suc (inside before + m))
+    here within =
+        let found = again c m smaller within in
+        (found.0, subst (λ k. Numbered root k found.0) (omega arith) (Numbered-below root (suc (0 + inside before)) c m found.0 (Inside Whole before c rest e) found.1))
+
+    behind : nodes c ≤ m → Exists root (suc (inside (before ++ c ∷ []) + (m - nodes c))) → Exists root (suc (inside before + m))
+    behind past found =
+        (found.0, subst (λ k. Numbered root k found.0) (omega (arith, past, inside-append before (c ∷ []))) found.1)
+
+    by_size : (m < nodes c) ⊎ (nodes c ≤ m)
+        → (children root ≡ (before ++ c ∷ []) ++ rest → m - nodes c < inside rest → Exists root (suc (inside (before ++ c ∷ []) + (m - nodes c))))
+        → Exists root (suc (inside before + m))
+    by_size (inl h) next = here h
+    by_size (inr h) next = behind h (next (e ∙ sym (append_assoc before (c ∷ []) rest)) (omega (arith, low, h)))
+
+exists_to : (bound : ℕ) (root : Tree) (k : ℕ) → nodes root ≤ bound → k < nodes root → Exists root k
+exists_to zero root k small low = absurd (omega (arith, small, low))
+exists_to (suc bound) root zero small low = (root, Whole)
+exists_to (suc bound) root (suc k) small low =
+    subst (λ n. Exists root (suc n)) (omega arith) (among root [] (children root) k refl (omega (arith, low, nodes-children root)) (λ c j smaller within. exists_to bound c j (omega (arith, small, smaller)) within))
+
+-- each number below the count is that of a node
+pub Numbered-exists : (root : Tree) (k : ℕ) → k < nodes root → (t : Tree) × Numbered root k t
+Numbered-exists root k low = exists_to (nodes root) root k (omega arith) low

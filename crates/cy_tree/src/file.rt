@@ -1,4 +1,4 @@
-ghost use Rattle.std.specs.Prelude.{◌≡◌, ◌≤◌, ◌↔◌, ◌++◌, List, None, IfOk, IfSome, OnOk, length};
+ghost use Rattle.std.specs.Prelude.{◌≡◌, ◌<◌, ◌≤◌, ◌↔◌, ◌++◌, List, None, IfOk, IfSome, OnOk, length};
 ghost use Rattle.cy_tree.specs.Nodes.{FileNode, Numbered, nodes};
 ghost use Rattle.cy_tree.specs.Links.{AreLinks, IsLinked};
 ghost use Rattle.cy_tree.specs.Seen.{seen};
@@ -7,6 +7,7 @@ ghost use Rattle.cy_tree.specs.declared.file.Link.{Link};
 use crate::content::Content;
 use crate::node::Node;
 use cy_base::OutOfMemory;
+use sqlite_items::at;
 use std::alloc::Global;
 use std::marker::Model;
 
@@ -29,7 +30,6 @@ impl Model for FileTree {
     ghost use Rattle.cy_tree.specs.Nodes.{FileNode};
     ghost use Rattle.cy_tree.specs.Links.{AreLinks};
     ghost use Rattle.cy_tree.specs.declared.content.Content.{Content};
-
     ghost use Rattle.cy_tree.specs.contracts.expr.Expr as expr;
     ghost use Rattle.cy_tree.specs.contracts.stmt.Stmt as stmt;
     ghost use Rattle.cy_tree.specs.contracts.stmt.Suite as suite;
@@ -83,7 +83,16 @@ impl FileTree {
         self.links.len() + 1
     }
 
-    /// The node of a number, which is found from its own depth in steps. None where there are no so many nodes.
+    fn link(&self, number: usize) -> Option<Link>
+        requires { 0 < number }
+        ensures found { IfSome result (λ link. IsLinked 0 (FileNode self.now) number link) }
+        ensures none { (result ≡ None) ↔ (nodes (FileNode self.now) ≤ number) }
+    {
+        at(self.links.as_slice(), number - 1).copied()
+    }
+
+    /// The node of a number, which is found by going outwards from it: a step for each node around it.
+    /// None where there are not so many nodes.
     pub fn node(&self, number: usize) -> Option<Node<'_>>
         ensures found { IfSome result (λ node. Numbered (FileNode self.entry.now) number (seen node)) }
         ensures none { (result ≡ None) ↔ (nodes (FileNode self.entry.now) ≤ number) }
@@ -91,7 +100,7 @@ impl FileTree {
         if number == 0 {
             return Some(Node::File(&self.content));
         }
-        let link = self.links.get(number - 1)?;
+        let link = self.link(number)?;
         self.node(link.outer)?.child(link.place)
     }
 }

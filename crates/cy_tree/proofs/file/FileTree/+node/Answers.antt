@@ -1,26 +1,24 @@
-use Rattle.std.proofs.Common.{rules, ◌≡◌, ◌≤◌, ◌↔◌, ◌++◌, List, None, IfOk, IfSome, OnOk, length, ℕ, ◌+◌, ◌-◌, ◌*◌, ◌<◌, ◌/◌, ◌%◌, Bool, true, false, nat_eq, nat_lt, [], ◌∷◌, slice_index_or, slice_set, bit_and, bit_or, Fits, w8, w32, w64, Bor, MutBor}
-use Rattle.cy_tree.specs.Nodes.{FileNode, Numbered, nodes}
-use Rattle.cy_tree.specs.Links.{AreLinks, IsLinked}
+use Rattle.std.proofs.Common.{◌≡◌, ℕ, ◌≤◌, None, ap, sym, subst, ◌∙◌, arith}
+use Rattle.cy_tree.specs.declared.content.Content.{Content}
+use Rattle.cy_tree.specs.Nodes.{Tree, FileNode, Numbered, Whole, nodes}
 use Rattle.cy_tree.specs.Seen.{seen}
-use Rattle.cy_tree.specs.declared.file.Link.{Link}
+use Rattle.cy_tree.proofs.Found.{found_below, not_missing, linked_there}
 use Rattle.cy_tree.proofs.file.FileTree.+node.Goals as goal
 
--- src/file.rt:92:13
+whole : (content view : Content) (n : ℕ) → content ≡ view → n ≡ 0 → Numbered (FileNode view) n (FileNode content)
+whole content view n same zero =
+    subst (λ k. Numbered (FileNode view) k (FileNode content)) (sym zero) (subst (λ c. Numbered (FileNode c) 0 (FileNode content)) same Whole)
+
 pub returns-then-number-eq0-clause-found : goal.returns-then-number-eq0-clause-found
-returns-then-number-eq0-clause-found t c = ?
+returns-then-number-eq0-clause-found t c = whole c.self.inside.content c.args.self.now c.args.number c.self.view_is c.if-number-eq0.true
 
--- src/file.rt:95:9
-pub node-requires : goal.node-requires
-node-requires t c = ?
-
--- src/file.rt:95:9
-pub returns-in_err-node-clause-none : goal.returns-in_err-node-clause-none
-returns-in_err-node-clause-none t c = ?
-
--- src/file.rt:87:5
 pub returns-clause-found : goal.returns-clause-found
-returns-clause-found t c = ?
+returns-clause-found t c =
+    found_below (FileNode c.args.self.now) c.args.number c.in_ok-link.link (seen c.in_ok-node.field-0) c.child.result
+    c.in_ok-link.ensures.found c.in_ok-node.ensures.found c.child.ensures
 
--- src/file.rt:87:5
 pub returns-clause-none : goal.returns-clause-none
-returns-clause-none t c = ?
+returns-clause-none t c =
+    let root = FileNode c.args.self.now in
+    let missing = not_missing root c.args.number c.in_ok-link.link (seen c.in_ok-node.field-0) c.child.result c.in_ok-link.ensures.found c.in_ok-node.ensures.found c.child.ensures in
+    ((λ e. absurd (missing e)), (λ h. absurd (omega (arith, h, linked_there root c.args.number c.in_ok-link.link c.in_ok-link.ensures.found))))
