@@ -121,6 +121,6 @@ module _ (T A : Type 0) (L : Form T A) (p : Reader T A) (b m : Set T) (X : Exact
 
     -- with so many of the one form, and then of another
     pub many_upto_exact : (n : ℕ) (M : Form T A) (r : Reader T A) → Exact T A M r false b m → Exact T (List A) (many_upto n L M) (read_many_upto n b p r) true b goes
-    unfolding read_many_upto
+    unfolding read_many_upto many_upto
     many_upto_exact zero M r Z = more_next_with b apart (many L) (read_many b p) M r Z goes many_exact more_m more_b
     many_upto_exact (suc n) M r Z = more_next b apart (many_upto n L M) (read_many_upto n b p r) goes (many_upto_exact n M r Z) more_m more_b

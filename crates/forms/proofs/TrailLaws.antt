@@ -1,11 +1,12 @@
 -- Lists with a separator between their items, that may also stand behind the last.
 use Rattle.std.proofs.Common.{◌≡◌, ℕ, zero, suc, ◌<◌, ◌≤◌, Bool, true, false, ◌||◌, List, [], ◌∷◌, ◌++◌, length, refl, sym, ◌∙◌, ap, append_assoc, length-append, arith}
 use Rattle.std.specs.Prelude.{None}
-use Rattle.forms.specs.Forms.{Mark, Form, Set, none, either, kept, Apart, one, both, nothing, this, that, or, many, over}
+use Rattle.forms.specs.Forms.{Mark, Form, Set, none, either, kept, Apart, One, one, Both, both, nothing, Or, this, that, or, Cut, many, over, Sentence}
 use Rattle.forms.specs.Readers.{Reader, read_one, read_both, read_or, read_nothing, refuse}
 use Rattle.forms.specs.Exact.{Exact}
-use Rattle.forms.specs.Lists.{second, itself, Row, push, yes, trail, trailed, trail_upto, read_trailed, read_trail, read_trail_upto}
+use Rattle.forms.specs.Lists.{pair, second, itself, Row, push, yes, trail, trailed, trail_upto, read_trailed, read_trail, read_trail_upto}
 use Rattle.forms.proofs.Facts.{or_false}
+use Rattle.forms.proofs.Beginnings.{some_both, some_many, some_that, some_nothing}
 use Rattle.forms.proofs.OneLaws.{one_exact, nothing_exact}
 use Rattle.forms.proofs.BothLaws.{both_exact}
 use Rattle.forms.proofs.OrLaws.{or_exact}
@@ -169,6 +170,11 @@ module _ (T A : Type 0) (sep : Set T) (sample : T) (fits : sep sample ≡ true) 
 
     -- with at most so many items; a further one passes the limit
     pub trail_upto_exact : (n : ℕ) (number : T → ℕ) → Exact T (Row A) (trail_upto n sep number L) (read_trail_upto n sep b number p) true sep goes
-    unfolding read_trail_upto
+    unfolding read_trail_upto trail_upto
     trail_upto_exact zero number = next_with sep apart (trail sep L) (read_trail sep b p) goes trail_exact more_m more_b more_sep (over number L) (refuse b number) (over_exact T A number L b m X.sentences)
     trail_upto_exact (suc n) number = next_with sep apart (trail_upto n sep number L) (read_trail_upto n sep b number p) goes (trail_upto_exact n number) more_m more_b more_sep L p X
+
+-- no item, and no separator
+pub some_trail : {T A : Type 0} (sep : Set T) (L : Form T A) → Sentence T (Row A) (trail sep L)
+unfolding trail
+some_trail sep L = some_both pair (some_many (both second (one sep itself) L)) (some_that (one sep yes) (some_nothing false))

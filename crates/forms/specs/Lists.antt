@@ -35,7 +35,7 @@ abbrev pub trailed : {T A : Type 0} → Set T → Form T A → Form T (Row A) �
 trailed sep L K = or (both second (one sep itself) (or (both push L K) (nothing ([], true)))) (nothing ([], false))
 
 -- {',' x} [','] with at most n more x; a further one passes the limit at its first token
-abbrev pub trail_upto : {T A : Type 0} → ℕ → Set T → (T → ℕ) → Form T A → Form T (Row A)
+unfoldable pub trail_upto : {T A : Type 0} → ℕ → Set T → (T → ℕ) → Form T A → Form T (Row A)
 trail_upto zero sep number L = trailed sep (over number L) (trail sep L)
 trail_upto (suc n) sep number L = trailed sep L (trail_upto n sep number L)
 
@@ -55,7 +55,7 @@ abbrev pub one_more : {T A : Type 0} → Form T A → Form T (List A) → Form T
 one_more L K = or (both cons L K) (nothing [])
 
 -- {x} with at most n of the one form, and then of the other, which passes a limit
-abbrev pub many_upto : {T A : Type 0} → ℕ → Form T A → Form T A → Form T (List A)
+unfoldable pub many_upto : {T A : Type 0} → ℕ → Form T A → Form T A → Form T (List A)
 many_upto zero L M = one_more M (many L)
 many_upto (suc n) L M = one_more L (many_upto n L M)
 

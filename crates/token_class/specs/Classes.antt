@@ -11,8 +11,8 @@ class_among text [] = None
 class_among text (row ∷ rows) = if bytes_eq text row.0 then Some row.1 else class_among text rows
 
 abbrev pub or_class : Option TokenClass → TokenClass → TokenClass
-or_class (Some class) other = class
-or_class None other = other
+or_class (Some class) rest = class
+or_class None rest = rest
 
 -- ---- the reserved words, which are the project's own
 
