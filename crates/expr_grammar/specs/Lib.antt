@@ -2,3 +2,4 @@ pub mod Words
 pub mod Nodes
 pub mod Grammar
 pub mod Reading
+pub mod Laws

@@ -1,5 +1,9 @@
-//! The grammar of expressions, and what reads it.
+//! The grammar of expressions with its limits, what reads it, and their laws.
 #![tactic(auto)]
+
+mod laws;
+
+pub use laws::{expressions_are_read, expressions_spell_one_tree};
 
 /// The levels of the grammar at which an expression stands inside another (Python language reference, 6).
 #[derive(Clone, Copy, Debug, PartialEq, Eq)]

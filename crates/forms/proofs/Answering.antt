@@ -179,6 +179,10 @@ module _ (T A : Type 0) (L : Form T A) (p : Reader T A) (e : Bool) (b m : Set T)
         passes = passes n (plain front) r x (ap p (sym q) ∙ h);
       }
 
+  -- The tokens of a sentence within the limits spell its value alone.
+  pub one_value : (us vs : List (Mark T)) (a c : A) → L us a → IsClean us → L vs c → plain vs ≡ plain us → c ≡ a
+  one_value us vs a c l k r h = sym (did_value (value_of vs c (did a []) r (ap p h ∙ whole us a l ∙ expected_clean us a [] k) (λ d. d)))
+
   pub answers : (ts : List T) → Answers L ts (p ts)
   answers ts = go (p ts) refl
     where

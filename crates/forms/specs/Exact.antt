@@ -86,6 +86,10 @@ Answers {T} {A} L ts (did a rest) = Found T A L ts rest a
 Answers {T} {A} L ts (bad unexpected rest) = Wrong T A L ts rest
 Answers {T} {A} L ts (bad (limit n) rest) = Passed T A L n ts rest
 
+-- No tokens spell two values within the limits.
+abbrev pub SpellsOne : {T A : Type 0} → Form T A → Type 0
+SpellsOne {T} {A} L = (us vs : List (Mark T)) (a c : A) → L us a → IsClean us → L vs c → plain vs ≡ plain us → c ≡ a
+
 -- Whoever reads a form exactly answers the one value of the longest run, or the first token that is wrong or passes a limit.
 abbrev pub ExactReadersAnswer : Type 1
 ExactReadersAnswer = (T A : Type 0) (L : Form T A) (p : Reader T A) (e : Bool) (b m : Set T) → Exact T A L p e b m → (ts : List T) → Answers L ts (p ts)
