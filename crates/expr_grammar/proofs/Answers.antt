@@ -1,5 +1,4 @@
 -- What reads an expression answers as it should.
-use Rattle.std.proofs.Common.{ℕ, List}
 use Rattle.pyx_lex.specs.declared.token.Token.{Token}
 use Rattle.cy_tree.specs.declared.expr.Expr.{Expr}
 use Rattle.token_class.specs.Sets.{of}

@@ -1,5 +1,5 @@
 -- The nodes of the trees: what each production makes of its parts. The first byte of a node is that of its first token.
-use Rattle.std.specs.Prelude.{◌≡◌, ℕ, zero, suc, Bool, true, false, List, [], ◌∷◌, ◌++◌, Option, Some, None, flat_map}
+use Rattle.std.specs.Prelude.{ℕ, Bool, true, false, List, [], ◌∷◌, ◌++◌, Option, Some, None}
 use Rattle.pyx_lex.specs.declared.token.Token.{Token}
 use Rattle.pyx_lex.specs.declared.token.TokenKind.{TokenKind}
 use Rattle.pyx_lex.specs.declared.token.TokenKind.TheVariants as kind

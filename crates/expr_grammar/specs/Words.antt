@@ -1,6 +1,5 @@
 -- Sets of classes: the tokens of the grammar of expressions, and what each level begins with and goes on with.
-use Rattle.std.specs.Prelude.{Bool, true, false}
-use Rattle.token_class.specs.declared.class.TokenClass.{TokenClass}
+use Rattle.std.specs.Prelude.{true, false}
 use Rattle.token_class.specs.declared.class.TokenClass.TheVariants as c
 use Rattle.token_class.specs.Sets.{Classes}
 
@@ -591,4 +590,3 @@ more_type c.Char = true
 more_type c.Dot = true
 more_type c.OpenBracket = true
 more_type _ = false
-

@@ -1,7 +1,7 @@
 -- Lists with a separator between their items, that may also stand behind the last.
 use Rattle.std.proofs.Common.{◌≡◌, ℕ, zero, suc, ◌<◌, ◌≤◌, Bool, true, false, ◌||◌, List, [], ◌∷◌, ◌++◌, length, refl, sym, ◌∙◌, ap, append_assoc, length-append, arith}
 use Rattle.std.specs.Prelude.{None}
-use Rattle.forms.specs.Forms.{Mark, Form, Set, none, either, kept, Apart, One, one, Both, both, nothing, Or, this, that, or, Cut, many, over, Sentence}
+use Rattle.forms.specs.Forms.{Mark, Form, Set, none, either, kept, Apart, one, both, nothing, this, that, or, many, over, Sentence}
 use Rattle.forms.specs.Readers.{Reader, read_one, read_both, read_or, read_nothing, refuse}
 use Rattle.forms.specs.Exact.{Exact}
 use Rattle.forms.specs.Lists.{pair, second, itself, Row, push, yes, trail, trailed, trail_upto, read_trailed, read_trail, read_trail_upto}

@@ -1,5 +1,5 @@
 -- A test that computes over every class is a fact about each.
-use Rattle.std.proofs.Common.{◌≡◌, Bool, true, false, not, ◌&&◌, ◌||◌, refl, sym}
+use Rattle.std.proofs.Common.{◌≡◌, Bool, true, false, ◌&&◌, refl}
 use Rattle.token_class.specs.declared.class.TokenClass.{TokenClass}
 use Rattle.token_class.specs.declared.class.TokenClass.TheVariants as c
 use Rattle.token_class.specs.Every.{every}

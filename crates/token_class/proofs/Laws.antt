@@ -1,5 +1,5 @@
 -- The laws of forms, with sets of classes. Their conditions on sets compute, so each is `refl`.
-use Rattle.std.proofs.Common.{◌≡◌, ℕ, zero, suc, Bool, true, false, not, ◌&&◌, ◌||◌, List, [], ◌∷◌, refl, sym, ap, ◌∙◌}
+use Rattle.std.proofs.Common.{◌≡◌, ℕ, Bool, true, false, not, ◌&&◌, ◌||◌, List, refl, sym, ap, ◌∙◌}
 use Rattle.pyx_lex.specs.declared.token.Token.{Token}
 use Rattle.token_class.specs.declared.class.TokenClass.{TokenClass}
 use Rattle.token_class.specs.Classes.{class_of}
@@ -7,7 +7,7 @@ use Rattle.token_class.specs.Every.{every}
 use Rattle.token_class.specs.Sets.{Classes, of}
 use Rattle.token_class.proofs.EveryOne.{every_one}
 use Rattle.token_class.proofs.Samples.{class_for, sample}
-use Rattle.forms.specs.Forms.{Form, Set, none, either, kept, Apart, one, both, nothing, or, many, placed, over, guard, Sentence, Sentences}
+use Rattle.forms.specs.Forms.{Form, none, either, kept, Apart, one, both, nothing, or, many, placed, over, guard, Sentence, Sentences}
 use Rattle.forms.specs.Readers.{Reader, read_nothing, read_one, read_both, read_or, read_placed, read_guard, read_many, refuse}
 use Rattle.forms.specs.Lists.{Row, trail, trail_upto, read_trail, read_trail_upto, many_upto, read_many_upto}
 use Rattle.forms.specs.Exact.{Exact}
@@ -15,7 +15,7 @@ use Rattle.forms.proofs.Beginnings.{sentences_one, sentences_opened, some_one}
 use Rattle.forms.proofs.OneLaws.{one_exact, nothing_exact}
 use Rattle.forms.proofs.BothLaws.{both_exact}
 use Rattle.forms.proofs.OrLaws.{or_exact}
-use Rattle.forms.proofs.GuardLaws.{guard_exact, over_exact, placed_exact, exact_as, exact_sets}
+use Rattle.forms.proofs.GuardLaws.{guard_exact, over_exact, placed_exact, exact_sets}
 use Rattle.forms.proofs.Facts.{or_false}
 use Rattle.forms.proofs.ListLaws.{or_no, or_off, many_exact, many_upto_exact}
 use Rattle.forms.proofs.TrailLaws.{trail_exact, trail_upto_exact}
@@ -102,32 +102,42 @@ passing {A} {L} {p} {b} {m} number X = record { exact = over_exact Token A numbe
 
 -- the same sets, and no fewer classes with which it may go on
 pub sets : {A : Type 0} {L : Form Token A} {p : Reader Token A} {e : Bool} {b m : Classes} (c n : Classes) → every (λ x. bool_same (b x) (c x)) ≡ true → every (λ x. not (m x) || n x) ≡ true → ExactFor A L p e b m → ExactFor A L p e c n
-sets {A} {L} {p} {e} {b} {m} c n h g X = record { exact = exact_sets Token A L p e (of b) (of m) (of c) (of n)
-    (λ t. let x = class_of t.kind in same_bools (b x) (c x) (every_one (λ x. bool_same (b x) (c x)) h x))
-    (λ t k. let x = class_of t.kind in within_bools (m x) (n x) (every_one (λ x. not (m x) || n x) g x) k) X.exact }
+sets {A} {L} {p} {e} {b} {m} c n h g X = record {
+  exact = exact_sets Token A L p e (of b) (of m) (of c) (of n)
+      (λ t. let x = class_of t.kind in same_bools (b x) (c x) (every_one (λ x. bool_same (b x) (c x)) h x))
+      (λ t k. let x = class_of t.kind in within_bools (m x) (n x) (every_one (λ x. not (m x) || n x) g x) k) X.exact;
+}
 
 -- ---- the same, where less may be empty
 
 -- two forms, neither of which may be empty
 pub after : {A B C : Type 0} {L : Form Token A} {M : Form Token B} {p : Reader Token A} {q : Reader Token B} {b1 b2 m1 m2 : Classes} (f : A → B → C)
     → ExactFor A L p false b1 m1 → ExactFor B M q false b2 m2 → every (λ x. not (b2 x && m1 x)) ≡ true → ExactFor C (both f L M) (read_both f p q) false b1 m2
-after {A} {B} {C} {L} {M} {p} {q} {b1} {b2} {m1} {m2} f X Y h = record { exact = exact_sets Token C (both f L M) (read_both f p q) false (of (either b1 (kept false b2))) (of (either m2 (kept false m1))) (of b1) (of m2)
-    (λ t. or_no (b1 (class_of t.kind))) (λ t k. or_off (m2 (class_of t.kind)) false k refl) (seq f X Y h).exact }
+after {A} {B} {C} {L} {M} {p} {q} {b1} {b2} {m1} {m2} f X Y h = record {
+  exact = exact_sets Token C (both f L M) (read_both f p q) false (of (either b1 (kept false b2))) (of (either m2 (kept false m1))) (of b1) (of m2)
+      (λ t. or_no (b1 (class_of t.kind))) (λ t k. or_off (m2 (class_of t.kind)) false k refl) (seq f X Y h).exact;
+}
 
 -- the second may be empty
 pub after_maybe : {A B C : Type 0} {L : Form Token A} {M : Form Token B} {p : Reader Token A} {q : Reader Token B} {b1 b2 m1 m2 : Classes} (f : A → B → C)
     → ExactFor A L p false b1 m1 → ExactFor B M q true b2 m2 → every (λ x. not (b2 x && m1 x)) ≡ true → ExactFor C (both f L M) (read_both f p q) false b1 (either m2 m1)
-after_maybe {A} {B} {C} {L} {M} {p} {q} {b1} {b2} {m1} {m2} f X Y h = record { exact = exact_sets Token C (both f L M) (read_both f p q) false (of (either b1 (kept false b2))) (of (either m2 (kept true m1))) (of b1) (of (either m2 m1))
-    (λ t. or_no (b1 (class_of t.kind))) (λ t k. k) (seq f X Y h).exact }
+after_maybe {A} {B} {C} {L} {M} {p} {q} {b1} {b2} {m1} {m2} f X Y h = record {
+  exact = exact_sets Token C (both f L M) (read_both f p q) false (of (either b1 (kept false b2))) (of (either m2 (kept true m1))) (of b1) (of (either m2 m1))
+      (λ t. or_no (b1 (class_of t.kind))) (λ t k. k) (seq f X Y h).exact;
+}
 
 pub either_of : {A : Type 0} {L M : Form Token A} {p q : Reader Token A} {b1 b2 m1 m2 : Classes} → ExactFor A L p false b1 m1 → ExactFor A M q false b2 m2 → every (λ x. not (b2 x && b1 x)) ≡ true
     → ExactFor A (or L M) (read_or (of b1) p q) false (either b1 b2) (either m1 m2)
-either_of {A} {L} {M} {p} {q} {b1} {b2} {m1} {m2} X Y h = record { exact = exact_sets Token A (or L M) (read_or (of b1) p q) false (of (either b1 b2)) (of (either (either m1 m2) (kept false b1))) (of (either b1 b2)) (of (either m1 m2))
-    (λ t. refl) (λ t k. or_off (either m1 m2 (class_of t.kind)) false k refl) (choose X Y h).exact }
+either_of {A} {L} {M} {p} {q} {b1} {b2} {m1} {m2} X Y h = record {
+  exact = exact_sets Token A (or L M) (read_or (of b1) p q) false (of (either b1 b2)) (of (either (either m1 m2) (kept false b1))) (of (either b1 b2)) (of (either m1 m2))
+      (λ t. refl) (λ t k. or_off (either m1 m2 (class_of t.kind)) false k refl) (choose X Y h).exact;
+}
 
 -- the form or nothing
 pub maybe : {A : Type 0} {L : Form Token A} {p : Reader Token A} {b m : Classes} (v : A) → ExactFor A L p false b m → ExactFor A (or L (nothing v)) (read_or (of b) p (read_nothing v)) true b (either m b)
-maybe {A} {L} {p} {b} {m} v X = record { exact = exact_sets Token A (or L (nothing v)) (read_or (of b) p (read_nothing v)) true (of (either b none)) (of (either (either m none) (kept true b))) (of b) (of (either m b))
-    (λ t. or_no (b (class_of t.kind)))
-    (λ t k. let u = or_false (m (class_of t.kind)) (b (class_of t.kind)) k in or_off (either m none (class_of t.kind)) (kept true b (class_of t.kind)) (or_off (m (class_of t.kind)) false u.0 refl) u.1)
-    (or_exact Token A L (nothing v) p (read_nothing v) true (of b) none (of m) none X.exact (nothing_exact Token A v) (λ x k. cc)) }
+maybe {A} {L} {p} {b} {m} v X = record {
+  exact = exact_sets Token A (or L (nothing v)) (read_or (of b) p (read_nothing v)) true (of (either b none)) (of (either (either m none) (kept true b))) (of b) (of (either m b))
+      (λ t. or_no (b (class_of t.kind)))
+      (λ t k. let u = or_false (m (class_of t.kind)) (b (class_of t.kind)) k in or_off (either m none (class_of t.kind)) (kept true b (class_of t.kind)) (or_off (m (class_of t.kind)) false u.0 refl) u.1)
+      (or_exact Token A L (nothing v) p (read_nothing v) true (of b) none (of m) none X.exact (nothing_exact Token A v) (λ x k. cc));
+}

@@ -1,5 +1,5 @@
 -- Sets of classes, and tests of every class.
-use Rattle.std.specs.Prelude.{◌≡◌, Bool, true, false, not, ◌&&◌, ◌||◌}
+use Rattle.std.specs.Prelude.{Bool, ◌&&◌}
 use Rattle.token_class.specs.declared.class.TokenClass.{TokenClass}
 use Rattle.token_class.specs.declared.class.TokenClass.TheVariants as c
 

@@ -1,5 +1,4 @@
 -- Sets of tokens by their classes.
-use Rattle.std.specs.Prelude.{Bool, ◌||◌}
 use Rattle.pyx_lex.specs.declared.token.Token.{Token}
 use Rattle.token_class.specs.declared.class.TokenClass.{TokenClass}
 use Rattle.token_class.specs.Classes.{class_of}

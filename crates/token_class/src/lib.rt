@@ -2,5 +2,7 @@
 #![tactic(auto)]
 
 mod class;
+#[cfg(test)]
+mod tests;
 
 pub use class::{TokenClass, class_of};
