@@ -12,7 +12,7 @@ use Rattle.cy_tree.specs.declared.types.TypeName.{TypeName}
 use Rattle.cy_tree.specs.declared.types.Dim.{Dim}
 use Rattle.forms.specs.Forms.{none, either}
 use Rattle.forms.specs.Lists.{second, pair, itself}
-use Rattle.token_class.proofs.Laws.{ExactFor, token, choose, place, loop, loop_upto, passing, sets, after, after_maybe, either_of, maybe}
+use Rattle.token_class.proofs.Laws.{ExactFor, optional, empty, token, choose, place, loop, loop_upto, passing, sets, after, after_maybe, either_of, maybe}
 use Rattle.expr_grammar.specs.Words.{is_name, is_plain_name, is_int, is_str, is_not, is_is, is_in, is_const, is_dot, is_comma, is_colon, is_question_mark, is_order, is_signed, is_unsigned, is_char, is_short, is_int_word, is_long, is_lone, begins_number, begins_cop, more_number}
 use Rattle.expr_grammar.specs.Nodes.{text, ident, lone, yes, short_node, Length, nothing_more, and_int, second_long, long_node, unsigned_short, unsigned_long, number_node, named_node, some, dim_node, int_of, cons, str_node, attribute_node, order, is_node, in_node, not_in_node}
 use Rattle.expr_grammar.specs.Grammar.{four, flag, short, length, long, signed, behind_unsigned, unsigned, number_words, member, type_name, dim, dims, cop, strings, attribute}
@@ -76,14 +76,14 @@ member_exact = after second (token is_dot itself c.Dot refl) (token is_name iden
 pub type_name_exact : ExactFor TypeName type_name read_type_name false (either begins_number is_plain_name) (either more_number is_dot)
 unfolding type_name read_type_name
 type_name_exact =
-    let named = after_maybe named_node (token is_plain_name ident c.Name refl) (maybe None (place some member_exact)) refl in
-    sets (either begins_number is_plain_name) (either more_number is_dot) refl refl (either_of (place number_node number_exact) named refl)
+    let named = after_maybe named_node (token is_plain_name ident c.Name refl) (optional member_exact) refl in
+    sets (either begins_number is_plain_name) (either more_number is_dot) refl refl (either_of (after_maybe number_node number_exact (empty tt) refl) named refl)
 
 dim_exact : ExactFor Dim dim read_dim false is_colon is_colon
 unfolding dim read_dim
 dim_exact =
     let step = after second (token is_colon itself c.Colon refl) (token is_int int_of c.Int refl) refl in
-    sets is_colon is_colon refl refl (after_maybe dim_node (token is_colon itself c.Colon refl) (maybe None (place some step)) refl)
+    sets is_colon is_colon refl refl (after_maybe dim_node (token is_colon itself c.Colon refl) (optional step) refl)
 
 pub dims_exact : ExactFor (List Dim) dims read_dims false is_colon (either is_colon is_comma)
 unfolding dims read_dims

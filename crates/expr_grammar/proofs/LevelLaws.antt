@@ -13,7 +13,7 @@ use Rattle.forms.specs.Readers.{Reader, bad, unexpected}
 use Rattle.forms.specs.Lists.{Row, push, first, second, pair, itself}
 use Rattle.forms.proofs.Beginnings.{some_both, some_nothing, some_this, some_that}
 use Rattle.forms.proofs.TrailLaws.{some_trail}
-use Rattle.token_class.proofs.Laws.{ExactFor, token, seq, place, loop, list, list_upto, opened, some_token, within_room, sets, after, after_maybe, either_of, maybe}
+use Rattle.token_class.proofs.Laws.{ExactFor, optional, empty, token, seq, place, loop, list, list_upto, opened, some_token, within_room, sets, after, after_maybe, either_of, maybe}
 use Rattle.expr_grammar.specs.declared.Level.{Level}
 use Rattle.expr_grammar.specs.declared.Level.TheVariants as level
 use Rattle.expr_grammar.specs.Words.{is_name, is_int, is_str, is_none, is_true, is_false, is_if, is_else, is_or, is_and, is_not, is_comma, is_colon, is_question_mark, is_less, is_greater, is_open_parenthesis, is_close_parenthesis, is_open_bracket, is_close_bracket, is_open_brace, is_close_brace, is_bar, is_caret, is_ampersand, is_shift, is_sum, is_term, is_prefix, begins_postfix, begins_unary, begins_expr, begins_type, begins_index, trails, more_postfix, more_term, more_sum, more_shift, more_band, more_xor, more_bor, more_cmp, more_and, more_or, more_expr, more_type}
@@ -81,13 +81,13 @@ module _ (here inside : Bool) (I : Level → Form Token Expr) (P : Level → Rea
 
   high_exact : here ≡ true → ExactFor (Option Expr) (high here inside I) (read_high here inside P) false is_colon (either begins_expr more_expr)
   unfolding high read_high
-  high_exact h = sets is_colon (either begins_expr more_expr) refl refl (after_maybe second (token is_colon itself c.Colon refl) (maybe None (place some (X h level.Expr))) refl)
+  high_exact h = sets is_colon (either begins_expr more_expr) refl refl (after_maybe second (token is_colon itself c.Colon refl) (optional (X h level.Expr)) refl)
 
   index_exact : here ≡ true → ExactFor Index (index here inside I) (read_index here inside P) false begins_index goes_index
   unfolding index read_index
   index_exact h =
-      let from_start = sets is_colon (either begins_expr more_expr) refl refl (after_maybe low_slice (token is_colon itself c.Colon refl) (maybe None (place some (X h level.Expr))) refl) in
-      let whole = place index_node (after_maybe pair (X h level.Expr) (maybe None (place some (high_exact h))) refl) in
+      let from_start = sets is_colon (either begins_expr more_expr) refl refl (after_maybe low_slice (token is_colon itself c.Colon refl) (optional (X h level.Expr)) refl) in
+      let whole = place index_node (after_maybe pair (X h level.Expr) (optional (high_exact h)) refl) in
       sets begins_index goes_index refl refl (either_of from_start whole refl)
 
   indexes_exact : here ≡ true → ExactFor (Row Index) (indexes here inside I) (read_indexes here inside P) false begins_index goes_indexes
@@ -211,7 +211,7 @@ module _ (here inside : Bool) (I : Level → Form Token Expr) (P : Level → Rea
 
   compare_exact : ExactFor Expr (compare here inside I) (read_compare here inside P) false begins_unary more_cmp
   unfolding compare read_compare
-  compare_exact = place compare_node (sets begins_unary more_cmp refl refl (after_maybe pair bit_or_exact (maybe None (place some (after pair cop_exact bit_or_exact refl))) refl))
+  compare_exact = place compare_node (sets begins_unary more_cmp refl refl (after_maybe pair bit_or_exact (optional (after pair cop_exact bit_or_exact refl)) refl))
 
   negated_exact : ExactFor Expr (negated here inside I) (read_negated here inside P) false is_not more_cmp
   unfolding negated read_negated
@@ -239,7 +239,7 @@ module _ (here inside : Bool) (I : Level → Form Token Expr) (P : Level → Rea
 
   expr_exact : ExactFor Expr (expr here inside I) (read_expr here inside P) false begins_expr more_expr
   unfolding expr read_expr
-  expr_exact = place conditional_node (sets begins_expr more_expr refl refl (after_maybe pair disjunction_exact (maybe None (place some condition_exact)) refl))
+  expr_exact = place conditional_node (sets begins_expr more_expr refl refl (after_maybe pair disjunction_exact (optional condition_exact) refl))
 
   pub level_exact : (l : Level) → ExactFor Expr (at_level here inside I l) (read_at_level here inside P l) false (begins_of l) (more_of l)
   level_exact level.Expr = expr_exact

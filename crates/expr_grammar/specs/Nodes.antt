@@ -99,15 +99,15 @@ unsigned_long x and_int = number.UnsignedLongInt
 unsigned_long x and_long = number.UnsignedLongLong
 unsigned_long x and_long_int = number.UnsignedLongLongInt
 
-abbrev pub number_node : Token → NumberWords → TypeName
-number_node x words = name.Number words
+abbrev pub number_node : NumberWords → Unit {0} → TypeName
+number_node words u = name.Number words
 
 abbrev pub named_node : Ident → Option Ident → TypeName
 named_node a None = name.Named a
 named_node a (Some b) = name.Member a b
 
-abbrev pub some : {A : Type 0} → Token → A → Option A
-some x a = Some a
+abbrev pub some : {A : Type 0} → A → Unit {0} → Option A
+some a u = Some a
 
 abbrev pub dim_node : Token → Option ℕ → Dim
 dim_node x step = record { at = at x; step = step }

@@ -2,10 +2,15 @@
 use Rattle.std.proofs.Common.{◌≡◌, ℕ, Bool, true, false, cond, ◌⊎◌, inl, inr, List, [], ◌∷◌, ◌++◌, refl, sym, ◌∙◌, ap, subst}
 use Rattle.std.specs.Prelude.{Option, Some, None}
 use Rattle.forms.specs.Forms.{Mark, plain, IsClean, Form, Set, Over, over, guard, placed, Begins, Sentence, Sentences}
-use Rattle.forms.specs.Readers.{Fault, unexpected, limit, Outcome, did, bad, Reader, sees, rest_of, put, limit_at, refuse, read_guard, placed_outcome, read_placed}
+use Rattle.forms.specs.Readers.{Fault, unexpected, limit, Outcome, did, bad, Reader, sees, rest_of, put, limit_at, refuse, read_guard, read_placed, and_then}
 use Rattle.forms.specs.Exact.{marked, expected, Goes, Exact}
 use Rattle.forms.proofs.Facts.{cases, sees_same, no_front, did_value, did_rest, did_bad, goes_as}
 use Rattle.forms.proofs.Beginnings.{sentences_over, sentences_placed, sentences_as, sentences_set}
+
+abbrev placed_outcome : {T A B : Type 0} → (T → A → B) → List T → Outcome T A → Outcome T B
+placed_outcome f ts (bad e rest) = bad e rest
+placed_outcome f [] (did a rest) = bad unexpected rest
+placed_outcome f (x ∷ ts) (did a rest) = did (f x a) rest
 
 -- ---- no room
 
@@ -91,10 +96,6 @@ guard_exact T A number false L p b m S X = over_exact T A number L b m S
 -- ---- the first token at hand
 
 module _ (T A B : Type 0) (f : T → A → B) (L : Form T A) (p : Reader T A) (b m : Set T) (X : Exact T A L p false b m) where
-  on : (ts : List T) (o : Outcome T A) → p ts ≡ o → read_placed f p ts ≡ placed_outcome f ts o
-  unfolding read_placed
-  on ts o h = ap (placed_outcome f ts) h
-
   placed_fault : (ts : List T) (e : Fault) (rest : List T) → placed_outcome f ts (bad e rest) ≡ bad e rest
   placed_fault [] e rest = refl
   placed_fault (x ∷ ts) e rest = refl
@@ -106,6 +107,24 @@ module _ (T A B : Type 0) (f : T → A → B) (L : Form T A) (p : Reader T A) (b
       go : (us : List (Mark T)) → [] ≡ plain us ++ rest → Begins false b (plain us) → ⊥
       go [] e n = cc
       go (x ∷ us) e n = cc
+
+  -- at the end a token is missing
+  at_end : (o : Outcome T A) → p [] ≡ o → o ≡ bad unexpected []
+  at_end (did a rest) h = absurd (none_read a rest h)
+  at_end (bad e rest) h = let u = X.viable [] rest e h in go e u.0 rest u.1 u.3
+    where
+      go : (e : Fault) (us : List (Mark T)) (rest : List T) → [] ≡ plain us ++ rest → Goes L e us rest → ◌≡◌ {A = Outcome T A} (bad e rest) (bad unexpected [])
+      go unexpected [] rest q g = ap (λ w. bad unexpected w) (sym q)
+      go unexpected (y ∷ us) rest q g = cc
+      go (limit n) us [] q g = absurd g
+      go (limit n) [] (y ∷ rest) q g = cc
+      go (limit n) (z ∷ us) (y ∷ rest) q g = cc
+
+  on : (ts : List T) (o : Outcome T A) → p ts ≡ o → read_placed f p ts ≡ placed_outcome f ts o
+  unfolding read_placed
+  on [] o h = sym (ap (placed_outcome f []) (at_end o h))
+  on (x ∷ ts) (did a rest) h = rw h refl
+  on (x ∷ ts) (bad e rest) h = rw h refl
 
   Read : List T → List T → B → Type 0
   Read ts rest c = (front : List (Mark T)) × (ts ≡ plain front ++ rest) × placed f L front c × IsClean front

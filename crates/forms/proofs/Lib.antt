@@ -10,3 +10,4 @@ pub mod ListLaws
 pub mod TrailLaws
 pub mod Answering
 pub mod Packs
+pub mod Loops

@@ -70,6 +70,10 @@ module _ (T A : Type 0) (L : Form T A) (p : Reader T A) (b m : Set T) (X : Exact
   more_local : (q w : Reader T (List A)) (ts : List T) → ((us : List T) → length us < length ts → q us ≡ w us) → read_one_more b p q ts ≡ read_one_more b p w ts
   more_local q w ts h = same_that b _ _ _ ts (same_second cons p q w ts (λ a r e. h r (less_left ts r a e)))
 
+  more_end : (q : Reader T (List A)) → read_one_more b p q [] ≡ did [] []
+  unfolding read_nothing
+  more_end q = or_that b (read_both cons p q) (read_nothing []) [] refl
+
   module _ (c : Set T) (apart : Apart c m) (K : Form T (List A)) (q : Reader T (List A)) where
     -- the item is one of another form where a limit is passed
     more_next_with : (M : Form T A) (r : Reader T A) → Exact T A M r false b m → (n : Set T) → Exact T (List A) K q true c n → ((x : T) → n x ≡ false → m x ≡ false) → ((x : T) → n x ≡ false → b x ≡ false)
@@ -97,7 +101,7 @@ module _ (T A : Type 0) (L : Form T A) (p : Reader T A) (b m : Set T) (X : Exact
 
     many_turned : Exact T (List A) (turned (one_more L) []) (read_many b p) true b goes
     unfolding read_many
-    many_turned = turned_exact T (List A) (one_more L) (read_one_more b p) [] b goes more_mono (λ K us a l. that l) more_shrinks more_local
+    many_turned = turned_exact T (List A) (one_more L) (read_one_more b p) [] b goes more_mono (λ K us a l. that l) more_shrinks more_local more_end
         (more_next none (λ x k. cc) (nothing []) (read_nothing []) goes start more_m more_b)
         (λ K q Y. more_next b apart K q goes Y more_m more_b)
       where

@@ -2,10 +2,10 @@
 use Rattle.std.proofs.Common.{◌≡◌, ℕ, zero, suc, ◌<◌, ◌≤◌, Bool, true, false, ◌||◌, List, [], ◌∷◌, ◌++◌, length, refl, sym, ◌∙◌, ap, append_assoc, length-append, arith}
 use Rattle.std.specs.Prelude.{None}
 use Rattle.forms.specs.Forms.{Mark, Form, Set, none, either, kept, Apart, one, both, nothing, this, that, or, many, over, Sentence}
-use Rattle.forms.specs.Readers.{Reader, read_one, read_both, read_or, read_nothing, refuse}
+use Rattle.forms.specs.Readers.{did, Reader, read_one, read_both, read_or, read_nothing, refuse}
 use Rattle.forms.specs.Exact.{Exact}
 use Rattle.forms.specs.Lists.{pair, second, itself, Row, push, yes, trail, trailed, trail_upto, read_trailed, read_trail, read_trail_upto}
-use Rattle.forms.proofs.Facts.{or_false}
+use Rattle.forms.proofs.Facts.{or_that, or_false}
 use Rattle.forms.proofs.Beginnings.{some_both, some_many, some_that, some_nothing}
 use Rattle.forms.proofs.OneLaws.{one_exact, nothing_exact}
 use Rattle.forms.proofs.BothLaws.{both_exact}
@@ -125,6 +125,10 @@ module _ (T A : Type 0) (sep : Set T) (sample : T) (fits : sep sample ≡ true) 
   local q w ts h = same_that sep _ _ _ ts (same_second second _ _ _ ts (λ c r e. let l = less_left T T (one sep itself) (read_one sep itself) sep none mark_exact ts r c e in
       same_that b _ _ _ r (same_second push p q w r (λ a u z. let k = less_left T A L p b m X r u a z in h u (omega (arith, l, k))))))
 
+  finish : (q : Reader T (Row A)) → read_trailed sep b p q [] ≡ did ([], false) []
+  unfolding read_nothing
+  finish q = or_that sep (read_both second (read_one sep itself) (read_or b (read_both push p q) (read_nothing ([], true)))) (read_nothing ([], false)) [] refl
+
   -- one more turn, where the item may be one of another form that passes a limit
   module _ (c : Set T) (apart : Apart c m) (K : Form T (Row A)) (q : Reader T (Row A)) (n : Set T) (Y : Exact T (Row A) K q true c n)
       (more_m : (x : T) → n x ≡ false → m x ≡ false) (more_b : (x : T) → n x ≡ false → b x ≡ false) (more_sep : (x : T) → n x ≡ false → sep x ≡ false) where
@@ -158,7 +162,7 @@ module _ (T A : Type 0) (sep : Set T) (sample : T) (fits : sep sample ≡ true) 
 
     trail_turned : Exact T (Row A) (turned (trailed sep L) ([], false)) (read_trail sep b p) true sep goes
     unfolding read_trail
-    trail_turned = turned_exact T (Row A) (trailed sep L) (read_trailed sep b p) ([], false) sep goes mono (λ K us a l. that l) shrinks local
+    trail_turned = turned_exact T (Row A) (trailed sep L) (read_trailed sep b p) ([], false) sep goes mono (λ K us a l. that l) shrinks local finish
         (next_with none (λ x k. cc) (nothing ([], false)) (read_nothing ([], false)) goes start more_m more_b more_sep L p X)
         (λ K q Y. next_with sep apart K q goes Y more_m more_b more_sep L p X)
       where

@@ -1,7 +1,7 @@
 -- A form that may take any number of turns: each turn takes a token, so there are no more of them than tokens.
 use Rattle.std.proofs.Common.{◌≡◌, ℕ, zero, suc, ◌<◌, ◌≤◌, max, true, false, List, [], ◌∷◌, ◌++◌, length, refl, sym, ◌∙◌, ap, length-append, arith}
 use Rattle.forms.specs.Forms.{Mark, plain, Form, Set, nothing, Sentences}
-use Rattle.forms.specs.Readers.{unexpected, bad, Reader, sees, rest_of, put, read_nothing, read_turns, read_turned}
+use Rattle.forms.specs.Readers.{did, unexpected, bad, Reader, sees, rest_of, put, read_nothing, read_turns, read_turned}
 use Rattle.forms.specs.Exact.{expected, Exact}
 use Rattle.forms.proofs.Facts.{plain_length, goes_as}
 
@@ -28,6 +28,7 @@ module _ (T A : Type 0) (F : Turn T A) (G : Reader T A → Reader T A) (v : A) (
     (least : (L : Form T A) → Within (nothing v) (F L))
     (shrinks : (L : Form T A) (front : List (Mark T)) (a : A) → F L front a → F (shorter (length front) L) front a)
     (local : (p q : Reader T A) (ts : List T) → ((us : List T) → length us < length ts → p us ≡ q us) → G p ts ≡ G q ts)
+    (at_end : (p : Reader T A) → G p [] ≡ did v [])
     (exact_first : Exact T A (F (nothing v)) (G (read_nothing v)) true b m)
     (exact_next : (L : Form T A) (p : Reader T A) → Exact T A L p true b m → Exact T A (F L) (G p) true b m) where
   pub up : (n k : ℕ) → n ≤ k → Within (turns n F v) (turns k F v)
@@ -41,10 +42,13 @@ module _ (T A : Type 0) (F : Turn T A) (G : Reader T A → Reader T A) (v : A) (
   fits (suc n) front a l = mono (shorter (length front) (turns n F v)) (turns (length front) F v) (λ us a s. up (suc (length us)) (length front) (omega (arith, s.0)) us a (fits n us a s.1)) front a
       (shrinks (turns n F v) front a l)
 
-  enough : (n k : ℕ) (ts : List T) → length ts < n → length ts < k → read_turns n G v ts ≡ read_turns k G v ts
-  unfolding read_turns
-  enough zero k ts h g = absurd (omega arith)
-  enough (suc n) zero ts h g = absurd (omega arith)
+  enough : (n k : ℕ) (ts : List T) → length ts ≤ n → length ts ≤ k → read_turns n G v ts ≡ read_turns k G v ts
+  unfolding read_turns read_nothing
+  enough zero zero ts h g = refl
+  enough zero (suc k) [] h g = sym (at_end (read_turns k G v))
+  enough zero (suc k) (x ∷ ts) h g = absurd (omega arith)
+  enough (suc n) zero [] h g = at_end (read_turns n G v)
+  enough (suc n) zero (x ∷ ts) h g = absurd (omega arith)
   enough (suc n) (suc k) ts h g = local (read_turns n G v) (read_turns k G v) ts (λ us l. enough n k us (omega arith) (omega arith))
 
   exact_at : (n : ℕ) → Exact T A (turns (suc n) F v) (read_turns (suc n) G v) true b m
@@ -55,11 +59,10 @@ module _ (T A : Type 0) (F : Turn T A) (G : Reader T A → Reader T A) (v : A) (
   -- with any number of turns that is enough
   at : (n : ℕ) (ts : List T) → length ts ≤ n → read_turned G v ts ≡ read_turns (suc n) G v ts
   unfolding read_turned
-  at n ts h = enough (suc (length ts)) (suc n) ts (omega arith) (omega arith)
+  at n ts h = enough (length ts) (suc n) ts (omega arith) (omega arith)
 
   turned_takes : (front : List (Mark T)) (rest : List T) (a : A) → turned F v front a → sees m rest ≡ false → read_turned G v (plain front ++ rest) ≡ expected front a rest
-  unfolding read_turned
-  turned_takes front rest a l h = (exact_at (length (plain front ++ rest))).takes front rest a
+  turned_takes front rest a l h = at (length (plain front ++ rest)) (plain front ++ rest) (omega arith) ∙ (exact_at (length (plain front ++ rest))).takes front rest a
       (up (suc (length front)) (suc (length (plain front ++ rest))) (omega (arith, length-append (plain front) rest, plain_length front)) front a (fits l.0 front a l.1)) h
 
   turned_near : (front mid r s : List T) (x : T) → rest_of (read_turned G v (front ++ (mid ++ x ∷ r))) ≡ mid ++ x ∷ r
@@ -83,12 +86,11 @@ module _ (T A : Type 0) (F : Turn T A) (G : Reader T A → Reader T A) (v : A) (
   }
 
   pub turned_exact : Exact T A (turned F v) (read_turned G v) true b m
-  unfolding read_turned
   turned_exact = record {
     sentences = sentences_turned;
-    sound = λ ts rest a h. let u = (exact_at (length ts)).sound ts rest a h in (u.0, u.1, (suc (length ts), u.2), u.3);
+    sound = λ ts rest a h. let u = (exact_at (length ts)).sound ts rest a (sym (at (length ts) ts (omega arith)) ∙ h) in (u.0, u.1, (suc (length ts), u.2), u.3);
     takes = turned_takes;
-    viable = λ ts rest f h. let u = (exact_at (length ts)).viable ts rest f h in
+    viable = λ ts rest f h. let u = (exact_at (length ts)).viable ts rest f (sym (at (length ts) ts (omega arith)) ∙ h) in
         (u.0, u.1, u.2, goes_as (turns (suc (length ts)) F v) (turned F v) f u.0 rest (λ us a l. (a, (suc (length ts), l))) u.3);
     near = turned_near;
     ends = turned_ends;

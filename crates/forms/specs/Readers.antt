@@ -38,13 +38,9 @@ read_both f p q ts = and_then (p ts) (λ a us. and_then (q us) (λ b vs. did (f 
 unfoldable pub read_or : {T A : Type 0} → Set T → Reader T A → Reader T A → Reader T A
 read_or b p q ts = cond (sees b ts) (p ts) (q ts)
 
-abbrev pub placed_outcome : {T A B : Type 0} → (T → A → B) → List T → Outcome T A → Outcome T B
-placed_outcome f ts (bad e rest) = bad e rest
-placed_outcome f [] (did a rest) = bad unexpected rest
-placed_outcome f (x ∷ ts) (did a rest) = did (f x a) rest
-
 unfoldable pub read_placed : {T A B : Type 0} → (T → A → B) → Reader T A → Reader T B
-read_placed f p ts = placed_outcome f ts (p ts)
+read_placed f p [] = bad unexpected []
+read_placed f p (x ∷ ts) = and_then (p (x ∷ ts)) (λ a rest. did (f x a) rest)
 
 abbrev pub limit_at : {T A : Type 0} → (T → ℕ) → List T → Outcome T A
 limit_at number [] = bad unexpected []
@@ -67,7 +63,7 @@ read_turns (suc n) turn v = turn (read_turns n turn v)
 
 -- Each turn takes a token, so there are no more of them than tokens.
 unfoldable pub read_turned : {T A : Type 0} → (Reader T A → Reader T A) → A → Reader T A
-read_turned turn v ts = read_turns (suc (length ts)) turn v ts
+read_turned turn v ts = read_turns (length ts) turn v ts
 
 abbrev pub cons : {A : Type 0} → A → List A → List A
 cons x xs = x ∷ xs

@@ -1,5 +1,6 @@
 -- The laws of forms, with sets of classes. Their conditions on sets compute, so each is `refl`.
 use Rattle.std.proofs.Common.{◌≡◌, ℕ, Bool, true, false, not, ◌&&◌, ◌||◌, List, refl, sym, ap, ◌∙◌}
+use Rattle.std.specs.Prelude.{Option, Some, None}
 use Rattle.pyx_lex.specs.declared.token.Token.{Token}
 use Rattle.token_class.specs.declared.class.TokenClass.{TokenClass}
 use Rattle.token_class.specs.Classes.{class_of}
@@ -141,3 +142,11 @@ maybe {A} {L} {p} {b} {m} v X = record {
       (λ t k. let u = or_false (m (class_of t.kind)) (b (class_of t.kind)) k in or_off (either m none (class_of t.kind)) (kept true b (class_of t.kind)) (or_off (m (class_of t.kind)) false u.0 refl) u.1)
       (or_exact Token A L (nothing v) p (read_nothing v) true (of b) none (of m) none X.exact (nothing_exact Token A v) (λ x k. cc));
 }
+
+-- an optional form
+abbrev pub only : {A : Type 0} → A → Unit {0} → Option A
+only a u = Some a
+
+pub optional : {A : Type 0} {L : Form Token A} {p : Reader Token A} {b m : Classes} → ExactFor A L p false b m
+    → ExactFor (Option A) (or (both only L (nothing tt)) (nothing None)) (read_or (of b) (read_both only p (read_nothing tt)) (read_nothing None)) true b (either (either none m) b)
+optional X = maybe None (after_maybe only X (empty tt) refl)
