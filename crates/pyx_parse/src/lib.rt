@@ -1,0 +1,8 @@
+//! Expressions: the one tree of the longest run of tokens, or the first rule that is broken.
+#![tactic(auto)]
+
+mod input;
+mod set;
+
+pub use input::{Halt, Input};
+pub use set::{TokenSet, has};
