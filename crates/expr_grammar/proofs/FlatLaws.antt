@@ -10,11 +10,13 @@ use Rattle.cy_tree.specs.declared.types.NumberWords.{NumberWords}
 use Rattle.cy_tree.specs.declared.types.NumberWords.TheVariants as number
 use Rattle.cy_tree.specs.declared.types.TypeName.{TypeName}
 use Rattle.cy_tree.specs.declared.types.Dim.{Dim}
+use Rattle.expr_grammar.specs.declared.Longs.{Longs}
+use Rattle.expr_grammar.specs.declared.Longs.TheVariants as longs
 use Rattle.forms.specs.Forms.{none, either}
 use Rattle.forms.specs.Lists.{second, pair, itself}
 use Rattle.token_class.proofs.Laws.{ExactFor, optional, empty, token, choose, place, loop, loop_upto, passing, sets, after, after_maybe, either_of, maybe}
 use Rattle.expr_grammar.specs.Words.{is_name, is_plain_name, is_int, is_str, is_not, is_is, is_in, is_const, is_dot, is_comma, is_colon, is_question_mark, is_order, is_signed, is_unsigned, is_char, is_short, is_int_word, is_long, is_lone, begins_number, begins_cop, more_number}
-use Rattle.expr_grammar.specs.Nodes.{text, ident, lone, yes, short_node, Length, nothing_more, and_int, second_long, long_node, unsigned_short, unsigned_long, number_node, named_node, some, dim_node, int_of, cons, str_node, attribute_node, order, is_node, in_node, not_in_node}
+use Rattle.expr_grammar.specs.Nodes.{text, ident, lone, yes, short_node, second_long, long_node, unsigned_short, unsigned_long, number_node, named_node, some, dim_node, int_of, cons, str_node, attribute_node, order, is_node, in_node, not_in_node}
 use Rattle.expr_grammar.specs.Grammar.{four, flag, short, length, long, signed, behind_unsigned, unsigned, number_words, member, type_name, dim, dims, cop, strings, attribute}
 use Rattle.expr_grammar.specs.Reading.{read_flag, read_short, read_length, read_long, read_signed, read_behind_unsigned, read_unsigned, read_number_words, read_member, read_type_name, read_dim, read_dims, read_cop, read_strings, read_attribute}
 
@@ -33,11 +35,11 @@ short_exact : ExactFor NumberWords short read_short false is_short is_int_word
 unfolding short read_short
 short_exact = sets is_short is_int_word refl refl (after_maybe short_node (token is_short itself c.Short refl) int_flag refl)
 
-length_exact : ExactFor Length length read_length true (either is_long is_int_word) (either is_int_word is_long)
+length_exact : ExactFor Longs length read_length true (either is_long is_int_word) (either is_int_word is_long)
 unfolding length read_length
 length_exact =
     let long = sets is_long is_int_word refl refl (after_maybe second_long (token is_long itself c.Long refl) int_flag refl) in
-    sets (either is_long is_int_word) (either is_int_word is_long) refl refl (choose long (maybe nothing_more (token is_int_word (λ x. and_int) c.IntWord refl)) refl)
+    sets (either is_long is_int_word) (either is_int_word is_long) refl refl (choose long (maybe longs.Bare (token is_int_word (λ x. longs.Int) c.IntWord refl)) refl)
 
 long_exact : ExactFor NumberWords long read_long false is_long (either is_int_word is_long)
 unfolding long read_long

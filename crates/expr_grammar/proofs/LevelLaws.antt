@@ -17,7 +17,7 @@ use Rattle.token_class.proofs.Laws.{ExactFor, optional, empty, token, seq, place
 use Rattle.expr_grammar.specs.declared.Level.{Level}
 use Rattle.expr_grammar.specs.declared.Level.TheVariants as level
 use Rattle.expr_grammar.specs.Words.{is_name, is_int, is_str, is_none, is_true, is_false, is_if, is_else, is_or, is_and, is_not, is_comma, is_colon, is_question_mark, is_less, is_greater, is_open_parenthesis, is_close_parenthesis, is_open_bracket, is_close_bracket, is_open_brace, is_close_brace, is_bar, is_caret, is_ampersand, is_shift, is_sum, is_term, is_prefix, begins_postfix, begins_unary, begins_expr, begins_type, begins_index, trails, more_postfix, more_term, more_sum, more_shift, more_band, more_xor, more_bor, more_cmp, more_and, more_or, more_expr, more_type}
-use Rattle.expr_grammar.specs.Nodes.{type_node, triple, some, name_node, int_node, none_node, true_node, false_node, group_node, list_node, dict_node, call_node, item_node, low_slice, index_node, postfix_node, prefix_node, cast_node, term_operand, term_node, sum_operand, sum_node, shift_operand, shift_node, operand, bit_and_node, bit_xor_node, bit_or_node, compare_node, not_node, and_node, or_node, conditional_node}
+use Rattle.expr_grammar.specs.Nodes.{from, type_node, triple, some, name_node, int_node, none_node, true_node, false_node, group_node, list_node, dict_node, call_node, item_node, low_slice, index_node, postfix_node, prefix_node, cast_node, term_operand, term_node, sum_operand, sum_node, shift_operand, shift_node, operand, bit_and_node, bit_xor_node, bit_or_node, compare_node, not_node, and_node, or_node, conditional_node}
 use Rattle.expr_grammar.specs.Grammar.{two, argument_rule, pair_of_three, is_positive, type, exprs, arguments, item, items, high, index, indexes, group, list_display, dict_display, atom, call, indexing, part, postfix, prefixed, behind_type, cast, unary, term, sum, shift, bit_and, bit_xor, bit_or, compare, negated, negation, conjunction, disjunction, otherwise, condition, expr, at_level, deep, Spells}
 use Rattle.expr_grammar.specs.Reading.{read_type, read_exprs, read_arguments, read_item, read_items, read_high, read_index, read_indexes, read_group, read_list_display, read_dict_display, read_atom, read_call, read_indexing, read_part, read_postfix, read_prefixed, read_behind_type, read_cast, read_unary, read_term, read_sum, read_shift, read_bit_and, read_bit_xor, read_bit_or, read_compare, read_negated, read_negation, read_conjunction, read_disjunction, read_otherwise, read_condition, read_expr, read_at_level, reads}
 use Rattle.expr_grammar.proofs.FlatLaws.{const_flag, question_flag, type_name_exact, dims_exact, cop_exact, strings_exact, attribute_exact}
@@ -87,7 +87,7 @@ module _ (here inside : Bool) (I : Level → Form Token Expr) (P : Level → Rea
   unfolding index read_index
   index_exact h =
       let from_start = sets is_colon (either begins_expr more_expr) refl refl (after_maybe low_slice (token is_colon itself c.Colon refl) (optional (X h level.Expr)) refl) in
-      let whole = place index_node (after_maybe pair (X h level.Expr) (optional (high_exact h)) refl) in
+      let whole = place (from index_node) (after_maybe pair (X h level.Expr) (optional (high_exact h)) refl) in
       sets begins_index goes_index refl refl (either_of from_start whole refl)
 
   indexes_exact : here ≡ true → ExactFor (Row Index) (indexes here inside I) (read_indexes here inside P) false begins_index goes_indexes
@@ -118,8 +118,8 @@ module _ (here inside : Bool) (I : Level → Form Token Expr) (P : Level → Rea
   group_exact : ExactFor Expr (group here inside I) (read_group here inside P) false is_open_parenthesis none
   unfolding group read_group
   group_exact = within_room here two
-      (opened group_node is_open_parenthesis itself c.OpenParenthesis refl (some_both first some_exprs (some_token is_close_parenthesis itself c.CloseParenthesis refl)))
-      (λ h. sets is_open_parenthesis none refl refl (after group_node (token is_open_parenthesis itself c.OpenParenthesis refl) (seq first (exprs_exact h) (token is_close_parenthesis itself c.CloseParenthesis refl) refl) refl))
+      (opened (from group_node) is_open_parenthesis itself c.OpenParenthesis refl (some_both first some_exprs (some_token is_close_parenthesis itself c.CloseParenthesis refl)))
+      (λ h. sets is_open_parenthesis none refl refl (after (from group_node) (token is_open_parenthesis itself c.OpenParenthesis refl) (seq first (exprs_exact h) (token is_close_parenthesis itself c.CloseParenthesis refl) refl) refl))
 
   list_exact : ExactFor Expr (list_display here inside I) (read_list_display here inside P) false is_open_bracket none
   unfolding list_display read_list_display
@@ -160,7 +160,7 @@ module _ (here inside : Bool) (I : Level → Form Token Expr) (P : Level → Rea
 
   postfix_exact : ExactFor Expr (postfix here inside I) (read_postfix here inside P) false begins_postfix more_postfix
   unfolding postfix read_postfix
-  postfix_exact = place postfix_node (sets begins_postfix more_postfix refl refl (after_maybe pair atom_exact (loop part_exact refl) refl))
+  postfix_exact = place (from postfix_node) (sets begins_postfix more_postfix refl refl (after_maybe pair atom_exact (loop part_exact refl) refl))
 
   -- ---- levels
 
@@ -187,31 +187,31 @@ module _ (here inside : Bool) (I : Level → Form Token Expr) (P : Level → Rea
 
   term_exact : ExactFor Expr (term here inside I) (read_term here inside P) false begins_unary more_term
   unfolding term read_term
-  term_exact = place term_node (sets begins_unary more_term refl refl (after_maybe pair unary_exact (loop (after term_operand (token is_term itself c.Star refl) unary_exact refl) refl) refl))
+  term_exact = place (from term_node) (sets begins_unary more_term refl refl (after_maybe pair unary_exact (loop (after term_operand (token is_term itself c.Star refl) unary_exact refl) refl) refl))
 
   sum_exact : ExactFor Expr (sum here inside I) (read_sum here inside P) false begins_unary more_sum
   unfolding sum read_sum
-  sum_exact = place sum_node (sets begins_unary more_sum refl refl (after_maybe pair term_exact (loop (after sum_operand (token is_sum itself c.Plus refl) term_exact refl) refl) refl))
+  sum_exact = place (from sum_node) (sets begins_unary more_sum refl refl (after_maybe pair term_exact (loop (after sum_operand (token is_sum itself c.Plus refl) term_exact refl) refl) refl))
 
   shift_exact : ExactFor Expr (shift here inside I) (read_shift here inside P) false begins_unary more_shift
   unfolding shift read_shift
-  shift_exact = place shift_node (sets begins_unary more_shift refl refl (after_maybe pair sum_exact (loop (after shift_operand (token is_shift itself c.ShiftLeft refl) sum_exact refl) refl) refl))
+  shift_exact = place (from shift_node) (sets begins_unary more_shift refl refl (after_maybe pair sum_exact (loop (after shift_operand (token is_shift itself c.ShiftLeft refl) sum_exact refl) refl) refl))
 
   bit_and_exact : ExactFor Expr (bit_and here inside I) (read_bit_and here inside P) false begins_unary more_band
   unfolding bit_and read_bit_and
-  bit_and_exact = place bit_and_node (sets begins_unary more_band refl refl (after_maybe pair shift_exact (loop (after operand (token is_ampersand itself c.Ampersand refl) shift_exact refl) refl) refl))
+  bit_and_exact = place (from bit_and_node) (sets begins_unary more_band refl refl (after_maybe pair shift_exact (loop (after operand (token is_ampersand itself c.Ampersand refl) shift_exact refl) refl) refl))
 
   bit_xor_exact : ExactFor Expr (bit_xor here inside I) (read_bit_xor here inside P) false begins_unary more_xor
   unfolding bit_xor read_bit_xor
-  bit_xor_exact = place bit_xor_node (sets begins_unary more_xor refl refl (after_maybe pair bit_and_exact (loop (after operand (token is_caret itself c.Caret refl) bit_and_exact refl) refl) refl))
+  bit_xor_exact = place (from bit_xor_node) (sets begins_unary more_xor refl refl (after_maybe pair bit_and_exact (loop (after operand (token is_caret itself c.Caret refl) bit_and_exact refl) refl) refl))
 
   bit_or_exact : ExactFor Expr (bit_or here inside I) (read_bit_or here inside P) false begins_unary more_bor
   unfolding bit_or read_bit_or
-  bit_or_exact = place bit_or_node (sets begins_unary more_bor refl refl (after_maybe pair bit_xor_exact (loop (after operand (token is_bar itself c.Bar refl) bit_xor_exact refl) refl) refl))
+  bit_or_exact = place (from bit_or_node) (sets begins_unary more_bor refl refl (after_maybe pair bit_xor_exact (loop (after operand (token is_bar itself c.Bar refl) bit_xor_exact refl) refl) refl))
 
   compare_exact : ExactFor Expr (compare here inside I) (read_compare here inside P) false begins_unary more_cmp
   unfolding compare read_compare
-  compare_exact = place compare_node (sets begins_unary more_cmp refl refl (after_maybe pair bit_or_exact (optional (after pair cop_exact bit_or_exact refl)) refl))
+  compare_exact = place (from compare_node) (sets begins_unary more_cmp refl refl (after_maybe pair bit_or_exact (optional (after pair cop_exact bit_or_exact refl)) refl))
 
   negated_exact : ExactFor Expr (negated here inside I) (read_negated here inside P) false is_not more_cmp
   unfolding negated read_negated
@@ -223,11 +223,11 @@ module _ (here inside : Bool) (I : Level → Form Token Expr) (P : Level → Rea
 
   conjunction_exact : ExactFor Expr (conjunction here inside I) (read_conjunction here inside P) false begins_expr more_and
   unfolding conjunction read_conjunction
-  conjunction_exact = place and_node (sets begins_expr more_and refl refl (after_maybe pair negation_exact (loop (after second (token is_and itself c.And refl) negation_exact refl) refl) refl))
+  conjunction_exact = place (from and_node) (sets begins_expr more_and refl refl (after_maybe pair negation_exact (loop (after second (token is_and itself c.And refl) negation_exact refl) refl) refl))
 
   disjunction_exact : ExactFor Expr (disjunction here inside I) (read_disjunction here inside P) false begins_expr more_or
   unfolding disjunction read_disjunction
-  disjunction_exact = place or_node (sets begins_expr more_or refl refl (after_maybe pair conjunction_exact (loop (after second (token is_or itself c.Or refl) conjunction_exact refl) refl) refl))
+  disjunction_exact = place (from or_node) (sets begins_expr more_or refl refl (after_maybe pair conjunction_exact (loop (after second (token is_or itself c.Or refl) conjunction_exact refl) refl) refl))
 
   otherwise_exact : ExactFor Expr (otherwise here inside I) (read_otherwise here inside P) false is_else more_expr
   unfolding otherwise read_otherwise
@@ -239,7 +239,7 @@ module _ (here inside : Bool) (I : Level → Form Token Expr) (P : Level → Rea
 
   expr_exact : ExactFor Expr (expr here inside I) (read_expr here inside P) false begins_expr more_expr
   unfolding expr read_expr
-  expr_exact = place conditional_node (sets begins_expr more_expr refl refl (after_maybe pair disjunction_exact (optional condition_exact) refl))
+  expr_exact = place (from conditional_node) (sets begins_expr more_expr refl refl (after_maybe pair disjunction_exact (optional condition_exact) refl))
 
   pub level_exact : (l : Level) → ExactFor Expr (at_level here inside I l) (read_at_level here inside P l) false (begins_of l) (more_of l)
   level_exact level.Expr = expr_exact

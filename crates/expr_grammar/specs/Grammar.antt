@@ -13,10 +13,12 @@ use Rattle.cy_tree.specs.declared.types.TypeName.{TypeName}
 use Rattle.cy_tree.specs.declared.types.Dim.{Dim}
 use Rattle.cy_tree.specs.declared.types.TypeNode.{TypeNode}
 use Rattle.expr_grammar.specs.declared.Level.{Level}
+use Rattle.expr_grammar.specs.declared.Longs.{Longs}
+use Rattle.expr_grammar.specs.declared.Longs.TheVariants as longs
 use Rattle.expr_grammar.specs.declared.Level.TheVariants as level
 use Rattle.forms.specs.Lists.{Row, push, first, second, pair, itself, trail, trail_upto, many_upto, read_trail, read_trail_upto, read_many_upto}
 use Rattle.expr_grammar.specs.Words.{is_name, is_plain_name, is_int, is_str, is_none, is_true, is_false, is_if, is_else, is_or, is_and, is_not, is_is, is_in, is_const, is_dot, is_comma, is_colon, is_question_mark, is_less, is_greater, is_open_parenthesis, is_close_parenthesis, is_open_bracket, is_close_bracket, is_open_brace, is_close_brace, is_bar, is_caret, is_ampersand, is_shift, is_sum, is_term, is_prefix, is_order, is_signed, is_unsigned, is_char, is_short, is_int_word, is_long, is_lone, begins_postfix, begins_unary, begins_expr, begins_number, begins_cop, opens}
-use Rattle.expr_grammar.specs.Nodes.{class, text, ident, lone, yes, short_node, Length, nothing_more, and_int, second_long, long_node, unsigned_short, unsigned_long, number_node, named_node, some, dim_node, int_of, cons, type_node, triple, name_node, int_node, none_node, true_node, false_node, str_node, group_node, list_node, dict_node, attribute_node, call_node, item_node, low_slice, index_node, postfix_node, prefix_node, cast_node, term_operand, term_node, sum_operand, sum_node, shift_operand, shift_node, operand, bit_and_node, bit_xor_node, bit_or_node, order, is_node, in_node, not_in_node, compare_node, not_node, and_node, or_node, conditional_node}
+use Rattle.expr_grammar.specs.Nodes.{class, from, text, ident, lone, yes, short_node, second_long, long_node, unsigned_short, unsigned_long, number_node, named_node, some, dim_node, int_of, cons, type_node, triple, name_node, int_node, none_node, true_node, false_node, str_node, group_node, list_node, dict_node, attribute_node, call_node, item_node, low_slice, index_node, postfix_node, prefix_node, cast_node, term_operand, term_node, sum_operand, sum_node, shift_operand, shift_node, operand, bit_and_node, bit_xor_node, bit_or_node, order, is_node, in_node, not_in_node, compare_node, not_node, and_node, or_node, conditional_node}
 use Rattle.cy_tree.specs.declared.types.Ident.{Ident}
 use Rattle.forms.specs.Forms.{Form, one, both, nothing, or, many, placed, over, guard}
 
@@ -47,8 +49,8 @@ unfoldable pub short : Form Token NumberWords
 short = both short_node (one (of is_short) itself) (flag is_int_word)
 
 -- ['long' ['int'] | 'int'], behind 'long'
-unfoldable pub length : Form Token Length
-length = or (both second_long (one (of is_long) itself) (flag is_int_word)) (or (one (of is_int_word) (λ x. and_int)) (nothing nothing_more))
+unfoldable pub length : Form Token Longs
+length = or (both second_long (one (of is_long) itself) (flag is_int_word)) (or (one (of is_int_word) (λ x. longs.Int)) (nothing longs.Bare))
 
 -- 'long' length
 unfoldable pub long : Form Token NumberWords
@@ -126,7 +128,7 @@ module _ (here inside : Bool) (inner : Level → Form Token Expr) where
 
   -- expr | [expr] ':' [expr]
   unfoldable pub index : Form Token Index
-  index = or (both low_slice (one (of is_colon) itself) (opt (inner level.Expr))) (placed index_node (both pair (inner level.Expr) (opt high)))
+  index = or (both low_slice (one (of is_colon) itself) (opt (inner level.Expr))) (placed (from index_node) (both pair (inner level.Expr) (opt high)))
 
   -- index {',' index} [',']
   unfoldable pub indexes : Form Token (Row Index)
@@ -134,7 +136,7 @@ module _ (here inside : Bool) (inner : Level → Form Token Expr) where
 
   -- '(' [exprs] ')'
   unfoldable pub group : Form Token Expr
-  group = guard here two (both group_node (one (of is_open_parenthesis) itself) (both first exprs (one (of is_close_parenthesis) itself)))
+  group = guard here two (both (from group_node) (one (of is_open_parenthesis) itself) (both first exprs (one (of is_close_parenthesis) itself)))
 
   -- '[' [exprs] ']'
   unfoldable pub list_display : Form Token Expr
@@ -162,7 +164,7 @@ module _ (here inside : Bool) (inner : Level → Form Token Expr) where
 
   -- atom {part}
   unfoldable pub postfix : Form Token Expr
-  postfix = placed postfix_node (both pair atom (many part))
+  postfix = placed (from postfix_node) (both pair atom (many part))
 
   -- ('-' | '+' | '~') unary
   unfoldable pub prefixed : Form Token Expr
@@ -182,31 +184,31 @@ module _ (here inside : Bool) (inner : Level → Form Token Expr) where
 
   -- unary {('*' | '/' | '//' | '%') unary}
   unfoldable pub term : Form Token Expr
-  term = placed term_node (both pair unary (many (both term_operand (one (of is_term) itself) unary)))
+  term = placed (from term_node) (both pair unary (many (both term_operand (one (of is_term) itself) unary)))
 
   -- term {('+' | '-') term}
   unfoldable pub sum : Form Token Expr
-  sum = placed sum_node (both pair term (many (both sum_operand (one (of is_sum) itself) term)))
+  sum = placed (from sum_node) (both pair term (many (both sum_operand (one (of is_sum) itself) term)))
 
   -- sum {('<<' | '>>') sum}
   unfoldable pub shift : Form Token Expr
-  shift = placed shift_node (both pair sum (many (both shift_operand (one (of is_shift) itself) sum)))
+  shift = placed (from shift_node) (both pair sum (many (both shift_operand (one (of is_shift) itself) sum)))
 
   -- shift {'&' shift}
   unfoldable pub bit_and : Form Token Expr
-  bit_and = placed bit_and_node (both pair shift (many (both operand (one (of is_ampersand) itself) shift)))
+  bit_and = placed (from bit_and_node) (both pair shift (many (both operand (one (of is_ampersand) itself) shift)))
 
   -- bit_and {'^' bit_and}
   unfoldable pub bit_xor : Form Token Expr
-  bit_xor = placed bit_xor_node (both pair bit_and (many (both operand (one (of is_caret) itself) bit_and)))
+  bit_xor = placed (from bit_xor_node) (both pair bit_and (many (both operand (one (of is_caret) itself) bit_and)))
 
   -- bit_xor {'|' bit_xor}
   unfoldable pub bit_or : Form Token Expr
-  bit_or = placed bit_or_node (both pair bit_xor (many (both operand (one (of is_bar) itself) bit_xor)))
+  bit_or = placed (from bit_or_node) (both pair bit_xor (many (both operand (one (of is_bar) itself) bit_xor)))
 
   -- bit_or [cop bit_or]
   unfoldable pub compare : Form Token Expr
-  compare = placed compare_node (both pair bit_or (opt (both pair cop bit_or)))
+  compare = placed (from compare_node) (both pair bit_or (opt (both pair cop bit_or)))
 
   -- 'not' not
   unfoldable pub negated : Form Token Expr
@@ -218,11 +220,11 @@ module _ (here inside : Bool) (inner : Level → Form Token Expr) where
 
   -- negation {'and' negation}
   unfoldable pub conjunction : Form Token Expr
-  conjunction = placed and_node (both pair negation (many (both second (one (of is_and) itself) negation)))
+  conjunction = placed (from and_node) (both pair negation (many (both second (one (of is_and) itself) negation)))
 
   -- conjunction {'or' conjunction}
   unfoldable pub disjunction : Form Token Expr
-  disjunction = placed or_node (both pair conjunction (many (both second (one (of is_or) itself) conjunction)))
+  disjunction = placed (from or_node) (both pair conjunction (many (both second (one (of is_or) itself) conjunction)))
 
   -- 'else' expr
   unfoldable pub otherwise : Form Token Expr
@@ -234,7 +236,7 @@ module _ (here inside : Bool) (inner : Level → Form Token Expr) where
 
   -- disjunction ['if' disjunction 'else' expr]
   unfoldable pub expr : Form Token Expr
-  expr = placed conditional_node (both pair disjunction (opt condition))
+  expr = placed (from conditional_node) (both pair disjunction (opt condition))
 
   abbrev pub at_level : Level → Form Token Expr
   at_level level.Expr = expr

@@ -29,6 +29,8 @@ use Rattle.cy_tree.specs.declared.types.TypeName.{TypeName}
 use Rattle.cy_tree.specs.declared.types.TypeName.TheVariants as name
 use Rattle.cy_tree.specs.declared.types.Dim.{Dim}
 use Rattle.cy_tree.specs.declared.types.TypeNode.{TypeNode}
+use Rattle.expr_grammar.specs.declared.Longs.{Longs}
+use Rattle.expr_grammar.specs.declared.Longs.TheVariants as longs
 use Rattle.forms.specs.Lists.{Row}
 
 -- ---- tokens
@@ -38,6 +40,10 @@ at x = x.span.start
 
 abbrev pub class : Token → TokenClass
 class x = class_of x.kind
+
+-- of the first byte of a token
+abbrev pub from : {A B : Type 0} → (ℕ → A → B) → Token → A → B
+from f x a = f (at x) a
 
 abbrev pub text_of : TokenKind → List ℕ
 text_of (kind.Name text) = text
@@ -72,32 +78,31 @@ abbrev pub short_node : Token → Bool → NumberWords
 short_node x true = number.ShortInt
 short_node x false = number.Short
 
--- what stands behind a first `long`
-pub data Length : Type 0 where
-  nothing_more : Length
-  and_int : Length
-  and_long : Length
-  and_long_int : Length
+abbrev pub second_long : Token → Bool → Longs
+second_long x true = longs.LongInt
+second_long x false = longs.Long
 
-abbrev pub second_long : Token → Bool → Length
-second_long x true = and_long_int
-second_long x false = and_long
+abbrev pub long_words : Longs → NumberWords
+long_words longs.Bare = number.Long
+long_words longs.Int = number.LongInt
+long_words longs.Long = number.LongLong
+long_words longs.LongInt = number.LongLongInt
 
-abbrev pub long_node : Token → Length → NumberWords
-long_node x nothing_more = number.Long
-long_node x and_int = number.LongInt
-long_node x and_long = number.LongLong
-long_node x and_long_int = number.LongLongInt
+abbrev pub long_node : Token → Longs → NumberWords
+long_node x l = long_words l
 
 abbrev pub unsigned_short : Token → Bool → NumberWords
 unsigned_short x true = number.UnsignedShortInt
 unsigned_short x false = number.UnsignedShort
 
-abbrev pub unsigned_long : Token → Length → NumberWords
-unsigned_long x nothing_more = number.UnsignedLong
-unsigned_long x and_int = number.UnsignedLongInt
-unsigned_long x and_long = number.UnsignedLongLong
-unsigned_long x and_long_int = number.UnsignedLongLongInt
+abbrev pub unsigned_long_words : Longs → NumberWords
+unsigned_long_words longs.Bare = number.UnsignedLong
+unsigned_long_words longs.Int = number.UnsignedLongInt
+unsigned_long_words longs.Long = number.UnsignedLongLong
+unsigned_long_words longs.LongInt = number.UnsignedLongLongInt
+
+abbrev pub unsigned_long : Token → Longs → NumberWords
+unsigned_long x l = unsigned_long_words l
 
 abbrev pub number_node : NumberWords → Unit {0} → TypeName
 number_node words u = name.Number words
@@ -150,11 +155,11 @@ abbrev pub str_node : Token → List ℕ × List (List ℕ) → Expr
 str_node x t = e.Str (at x) (t.0 ++ joined t.1)
 
 -- `(e)` is e; `(e,)`, `()` and more than one are tuples
-abbrev pub group_node : Token → Row Expr → Expr
-group_node x ([], comma) = e.Tuple (at x) []
-group_node x (a ∷ [], false) = a
-group_node x (a ∷ [], true) = e.Tuple (at x) (a ∷ [])
-group_node x (a ∷ b ∷ more, comma) = e.Tuple (at x) (a ∷ b ∷ more)
+abbrev pub group_node : ℕ → Row Expr → Expr
+group_node start ([], comma) = e.Tuple start []
+group_node start (a ∷ [], false) = a
+group_node start (a ∷ [], true) = e.Tuple start (a ∷ [])
+group_node start (a ∷ b ∷ more, comma) = e.Tuple start (a ∷ b ∷ more)
 
 abbrev pub list_node : Token → Row Expr → Expr
 list_node x row = e.ListNode (at x) row.0
@@ -176,15 +181,15 @@ item_node x row = part.Item (at x) row.0
 abbrev pub low_slice : Token → Option Expr → Index
 low_slice x high = index.Slice (at x) None high
 
-abbrev pub index_node : Token → Expr × Option (Option Expr) → Index
-index_node x (a, None) = index.One a
-index_node x (a, Some high) = index.Slice (at x) (Some a) high
+abbrev pub index_node : ℕ → Expr × Option (Option Expr) → Index
+index_node start (a, None) = index.One a
+index_node start (a, Some high) = index.Slice start (Some a) high
 
 -- ---- levels; with one operand a level is that operand
 
-abbrev pub postfix_node : Token → Expr × List Part → Expr
-postfix_node x (a, []) = a
-postfix_node x (a, p ∷ ps) = e.Postfix (at x) a (p ∷ ps)
+abbrev pub postfix_node : ℕ → Expr × List Part → Expr
+postfix_node start (a, []) = a
+postfix_node start (a, p ∷ ps) = e.Postfix start a (p ∷ ps)
 
 abbrev pub prefix_of : TokenClass → UnaryOp
 prefix_of c.Minus = unary.Negate
@@ -206,9 +211,9 @@ term_of _ = term.Remainder
 abbrev pub term_operand : Token → Expr → TermOp × ℕ × Expr
 term_operand x a = (term_of (class x), at x, a)
 
-abbrev pub term_node : Token → Expr × List (TermOp × ℕ × Expr) → Expr
-term_node x (a, []) = a
-term_node x (a, b ∷ bs) = e.Term (at x) a (b ∷ bs)
+abbrev pub term_node : ℕ → Expr × List (TermOp × ℕ × Expr) → Expr
+term_node start (a, []) = a
+term_node start (a, b ∷ bs) = e.Term start a (b ∷ bs)
 
 abbrev pub sum_of : TokenClass → SumOp
 sum_of c.Plus = sum.Add
@@ -217,9 +222,9 @@ sum_of _ = sum.Subtract
 abbrev pub sum_operand : Token → Expr → SumOp × ℕ × Expr
 sum_operand x a = (sum_of (class x), at x, a)
 
-abbrev pub sum_node : Token → Expr × List (SumOp × ℕ × Expr) → Expr
-sum_node x (a, []) = a
-sum_node x (a, b ∷ bs) = e.Sum (at x) a (b ∷ bs)
+abbrev pub sum_node : ℕ → Expr × List (SumOp × ℕ × Expr) → Expr
+sum_node start (a, []) = a
+sum_node start (a, b ∷ bs) = e.Sum start a (b ∷ bs)
 
 abbrev pub shift_of : TokenClass → ShiftOp
 shift_of c.ShiftLeft = shift.Left
@@ -228,24 +233,24 @@ shift_of _ = shift.Right
 abbrev pub shift_operand : Token → Expr → ShiftOp × ℕ × Expr
 shift_operand x a = (shift_of (class x), at x, a)
 
-abbrev pub shift_node : Token → Expr × List (ShiftOp × ℕ × Expr) → Expr
-shift_node x (a, []) = a
-shift_node x (a, b ∷ bs) = e.Shift (at x) a (b ∷ bs)
+abbrev pub shift_node : ℕ → Expr × List (ShiftOp × ℕ × Expr) → Expr
+shift_node start (a, []) = a
+shift_node start (a, b ∷ bs) = e.Shift start a (b ∷ bs)
 
 abbrev pub operand : Token → Expr → ℕ × Expr
 operand x a = (at x, a)
 
-abbrev pub bit_and_node : Token → Expr × List (ℕ × Expr) → Expr
-bit_and_node x (a, []) = a
-bit_and_node x (a, b ∷ bs) = e.BitAnd (at x) a (b ∷ bs)
+abbrev pub bit_and_node : ℕ → Expr × List (ℕ × Expr) → Expr
+bit_and_node start (a, []) = a
+bit_and_node start (a, b ∷ bs) = e.BitAnd start a (b ∷ bs)
 
-abbrev pub bit_xor_node : Token → Expr × List (ℕ × Expr) → Expr
-bit_xor_node x (a, []) = a
-bit_xor_node x (a, b ∷ bs) = e.BitXor (at x) a (b ∷ bs)
+abbrev pub bit_xor_node : ℕ → Expr × List (ℕ × Expr) → Expr
+bit_xor_node start (a, []) = a
+bit_xor_node start (a, b ∷ bs) = e.BitXor start a (b ∷ bs)
 
-abbrev pub bit_or_node : Token → Expr × List (ℕ × Expr) → Expr
-bit_or_node x (a, []) = a
-bit_or_node x (a, b ∷ bs) = e.BitOr (at x) a (b ∷ bs)
+abbrev pub bit_or_node : ℕ → Expr × List (ℕ × Expr) → Expr
+bit_or_node start (a, []) = a
+bit_or_node start (a, b ∷ bs) = e.BitOr start a (b ∷ bs)
 
 abbrev pub order_of : TokenClass → Comparison
 order_of c.Less = comparison.Less
@@ -268,22 +273,22 @@ in_node x = (comparison.In, at x)
 abbrev pub not_in_node : Token → Token → Comparison × ℕ
 not_in_node x y = (comparison.NotIn, at x)
 
-abbrev pub compare_node : Token → Expr × Option ((Comparison × ℕ) × Expr) → Expr
-compare_node x (a, None) = a
-compare_node x (a, Some b) = e.Compare (at x) a b.0.0 b.0.1 b.1
+abbrev pub compare_node : ℕ → Expr × Option ((Comparison × ℕ) × Expr) → Expr
+compare_node start (a, None) = a
+compare_node start (a, Some b) = e.Compare start a b.0.0 b.0.1 b.1
 
 abbrev pub not_node : Token → Expr → Expr
 not_node x a = e.Not (at x) a
 
-abbrev pub and_node : Token → Expr × List Expr → Expr
-and_node x (a, []) = a
-and_node x (a, b ∷ bs) = e.And (at x) (a ∷ b ∷ bs)
+abbrev pub and_node : ℕ → Expr × List Expr → Expr
+and_node start (a, []) = a
+and_node start (a, b ∷ bs) = e.And start (a ∷ b ∷ bs)
 
-abbrev pub or_node : Token → Expr × List Expr → Expr
-or_node x (a, []) = a
-or_node x (a, b ∷ bs) = e.Or (at x) (a ∷ b ∷ bs)
+abbrev pub or_node : ℕ → Expr × List Expr → Expr
+or_node start (a, []) = a
+or_node start (a, b ∷ bs) = e.Or start (a ∷ b ∷ bs)
 
 -- `value if test else otherwise`
-abbrev pub conditional_node : Token → Expr × Option (Expr × Expr) → Expr
-conditional_node x (a, None) = a
-conditional_node x (a, Some b) = e.Conditional (at x) a b.0 b.1
+abbrev pub conditional_node : ℕ → Expr × Option (Expr × Expr) → Expr
+conditional_node start (a, None) = a
+conditional_node start (a, Some b) = e.Conditional start a b.0 b.1

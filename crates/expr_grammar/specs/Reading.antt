@@ -12,10 +12,12 @@ use Rattle.cy_tree.specs.declared.types.TypeName.{TypeName}
 use Rattle.cy_tree.specs.declared.types.Dim.{Dim}
 use Rattle.cy_tree.specs.declared.types.TypeNode.{TypeNode}
 use Rattle.expr_grammar.specs.declared.Level.{Level}
+use Rattle.expr_grammar.specs.declared.Longs.{Longs}
+use Rattle.expr_grammar.specs.declared.Longs.TheVariants as longs
 use Rattle.expr_grammar.specs.declared.Level.TheVariants as level
 use Rattle.forms.specs.Lists.{Row, push, first, second, pair, itself, trail, trail_upto, many_upto, read_trail, read_trail_upto, read_many_upto}
 use Rattle.expr_grammar.specs.Words.{is_name, is_plain_name, is_int, is_str, is_none, is_true, is_false, is_if, is_else, is_or, is_and, is_not, is_is, is_in, is_const, is_dot, is_comma, is_colon, is_question_mark, is_less, is_greater, is_open_parenthesis, is_close_parenthesis, is_open_bracket, is_close_bracket, is_open_brace, is_close_brace, is_bar, is_caret, is_ampersand, is_shift, is_sum, is_term, is_prefix, is_order, is_signed, is_unsigned, is_char, is_short, is_int_word, is_long, is_lone, begins_postfix, begins_unary, begins_expr, begins_number, begins_cop, opens, trails, begins_index}
-use Rattle.expr_grammar.specs.Nodes.{class, text, ident, lone, yes, short_node, Length, nothing_more, and_int, second_long, long_node, unsigned_short, unsigned_long, number_node, named_node, some, dim_node, int_of, cons, type_node, triple, name_node, int_node, none_node, true_node, false_node, str_node, group_node, list_node, dict_node, attribute_node, call_node, item_node, low_slice, index_node, postfix_node, prefix_node, cast_node, term_operand, term_node, sum_operand, sum_node, shift_operand, shift_node, operand, bit_and_node, bit_xor_node, bit_or_node, order, is_node, in_node, not_in_node, compare_node, not_node, and_node, or_node, conditional_node}
+use Rattle.expr_grammar.specs.Nodes.{class, from, text, ident, lone, yes, short_node, second_long, long_node, unsigned_short, unsigned_long, number_node, named_node, some, dim_node, int_of, cons, type_node, triple, name_node, int_node, none_node, true_node, false_node, str_node, group_node, list_node, dict_node, attribute_node, call_node, item_node, low_slice, index_node, postfix_node, prefix_node, cast_node, term_operand, term_node, sum_operand, sum_node, shift_operand, shift_node, operand, bit_and_node, bit_xor_node, bit_or_node, order, is_node, in_node, not_in_node, compare_node, not_node, and_node, or_node, conditional_node}
 use Rattle.cy_tree.specs.declared.types.Ident.{Ident}
 use Rattle.forms.specs.Readers.{Reader, bad, unexpected, read_one, read_both, read_nothing, read_or, read_many, read_placed, read_guard, refuse}
 use Rattle.expr_grammar.specs.Grammar.{two, four, argument_rule, pair_of_three, is_positive}
@@ -29,8 +31,8 @@ read_flag b = read_or (of b) (read_one (of b) yes) (read_nothing false)
 unfoldable pub read_short : Reader Token NumberWords
 read_short = read_both short_node (read_one (of is_short) itself) (read_flag is_int_word)
 
-unfoldable pub read_length : Reader Token Length
-read_length = read_or (of is_long) (read_both second_long (read_one (of is_long) itself) (read_flag is_int_word)) (read_or (of is_int_word) (read_one (of is_int_word) (λ x. and_int)) (read_nothing nothing_more))
+unfoldable pub read_length : Reader Token Longs
+read_length = read_or (of is_long) (read_both second_long (read_one (of is_long) itself) (read_flag is_int_word)) (read_or (of is_int_word) (read_one (of is_int_word) (λ x. longs.Int)) (read_nothing longs.Bare))
 
 unfoldable pub read_long : Reader Token NumberWords
 read_long = read_both long_node (read_one (of is_long) itself) read_length
@@ -88,13 +90,13 @@ module _ (here inside : Bool) (inner : Level → Reader Token Expr) where
   read_high = read_both second (read_one (of is_colon) itself) (read_opt begins_expr (inner level.Expr))
 
   unfoldable pub read_index : Reader Token Index
-  read_index = read_or (of is_colon) (read_both low_slice (read_one (of is_colon) itself) (read_opt begins_expr (inner level.Expr))) (read_placed index_node (read_both pair (inner level.Expr) (read_opt is_colon read_high)))
+  read_index = read_or (of is_colon) (read_both low_slice (read_one (of is_colon) itself) (read_opt begins_expr (inner level.Expr))) (read_placed (from index_node) (read_both pair (inner level.Expr) (read_opt is_colon read_high)))
 
   unfoldable pub read_indexes : Reader Token (Row Index)
   read_indexes = read_both push read_index (read_trail (of is_comma) (of begins_index) read_index)
 
   unfoldable pub read_group : Reader Token Expr
-  read_group = read_guard here (of is_open_parenthesis) two (read_both group_node (read_one (of is_open_parenthesis) itself) (read_both first read_exprs (read_one (of is_close_parenthesis) itself)))
+  read_group = read_guard here (of is_open_parenthesis) two (read_both (from group_node) (read_one (of is_open_parenthesis) itself) (read_both first read_exprs (read_one (of is_close_parenthesis) itself)))
 
   unfoldable pub read_list_display : Reader Token Expr
   read_list_display = read_guard here (of is_open_bracket) two (read_both list_node (read_one (of is_open_bracket) itself) (read_both first read_exprs (read_one (of is_close_bracket) itself)))
@@ -115,7 +117,7 @@ module _ (here inside : Bool) (inner : Level → Reader Token Expr) where
   read_part = read_or (of is_dot) read_attribute (read_or (of is_open_parenthesis) read_call read_indexing)
 
   unfoldable pub read_postfix : Reader Token Expr
-  read_postfix = read_placed postfix_node (read_both pair read_atom (read_many (of trails) read_part))
+  read_postfix = read_placed (from postfix_node) (read_both pair read_atom (read_many (of trails) read_part))
 
   unfoldable pub read_prefixed : Reader Token Expr
   read_prefixed = read_guard here (of is_prefix) two (read_both prefix_node (read_one (of is_prefix) itself) (inner level.Unary))
@@ -130,25 +132,25 @@ module _ (here inside : Bool) (inner : Level → Reader Token Expr) where
   read_unary = read_or (of is_prefix) read_prefixed (read_or (of is_less) read_cast read_postfix)
 
   unfoldable pub read_term : Reader Token Expr
-  read_term = read_placed term_node (read_both pair read_unary (read_many (of is_term) (read_both term_operand (read_one (of is_term) itself) read_unary)))
+  read_term = read_placed (from term_node) (read_both pair read_unary (read_many (of is_term) (read_both term_operand (read_one (of is_term) itself) read_unary)))
 
   unfoldable pub read_sum : Reader Token Expr
-  read_sum = read_placed sum_node (read_both pair read_term (read_many (of is_sum) (read_both sum_operand (read_one (of is_sum) itself) read_term)))
+  read_sum = read_placed (from sum_node) (read_both pair read_term (read_many (of is_sum) (read_both sum_operand (read_one (of is_sum) itself) read_term)))
 
   unfoldable pub read_shift : Reader Token Expr
-  read_shift = read_placed shift_node (read_both pair read_sum (read_many (of is_shift) (read_both shift_operand (read_one (of is_shift) itself) read_sum)))
+  read_shift = read_placed (from shift_node) (read_both pair read_sum (read_many (of is_shift) (read_both shift_operand (read_one (of is_shift) itself) read_sum)))
 
   unfoldable pub read_bit_and : Reader Token Expr
-  read_bit_and = read_placed bit_and_node (read_both pair read_shift (read_many (of is_ampersand) (read_both operand (read_one (of is_ampersand) itself) read_shift)))
+  read_bit_and = read_placed (from bit_and_node) (read_both pair read_shift (read_many (of is_ampersand) (read_both operand (read_one (of is_ampersand) itself) read_shift)))
 
   unfoldable pub read_bit_xor : Reader Token Expr
-  read_bit_xor = read_placed bit_xor_node (read_both pair read_bit_and (read_many (of is_caret) (read_both operand (read_one (of is_caret) itself) read_bit_and)))
+  read_bit_xor = read_placed (from bit_xor_node) (read_both pair read_bit_and (read_many (of is_caret) (read_both operand (read_one (of is_caret) itself) read_bit_and)))
 
   unfoldable pub read_bit_or : Reader Token Expr
-  read_bit_or = read_placed bit_or_node (read_both pair read_bit_xor (read_many (of is_bar) (read_both operand (read_one (of is_bar) itself) read_bit_xor)))
+  read_bit_or = read_placed (from bit_or_node) (read_both pair read_bit_xor (read_many (of is_bar) (read_both operand (read_one (of is_bar) itself) read_bit_xor)))
 
   unfoldable pub read_compare : Reader Token Expr
-  read_compare = read_placed compare_node (read_both pair read_bit_or (read_opt begins_cop (read_both pair read_cop read_bit_or)))
+  read_compare = read_placed (from compare_node) (read_both pair read_bit_or (read_opt begins_cop (read_both pair read_cop read_bit_or)))
 
   unfoldable pub read_negated : Reader Token Expr
   read_negated = read_guard here (of is_not) two (read_both not_node (read_one (of is_not) itself) (inner level.Not))
@@ -157,10 +159,10 @@ module _ (here inside : Bool) (inner : Level → Reader Token Expr) where
   read_negation = read_or (of is_not) read_negated read_compare
 
   unfoldable pub read_conjunction : Reader Token Expr
-  read_conjunction = read_placed and_node (read_both pair read_negation (read_many (of is_and) (read_both second (read_one (of is_and) itself) read_negation)))
+  read_conjunction = read_placed (from and_node) (read_both pair read_negation (read_many (of is_and) (read_both second (read_one (of is_and) itself) read_negation)))
 
   unfoldable pub read_disjunction : Reader Token Expr
-  read_disjunction = read_placed or_node (read_both pair read_conjunction (read_many (of is_or) (read_both second (read_one (of is_or) itself) read_conjunction)))
+  read_disjunction = read_placed (from or_node) (read_both pair read_conjunction (read_many (of is_or) (read_both second (read_one (of is_or) itself) read_conjunction)))
 
   unfoldable pub read_otherwise : Reader Token Expr
   read_otherwise = read_guard here (of is_else) two (read_both second (read_one (of is_else) itself) (inner level.Expr))
@@ -169,7 +171,7 @@ module _ (here inside : Bool) (inner : Level → Reader Token Expr) where
   read_condition = read_both second (read_one (of is_if) itself) (read_both pair read_disjunction read_otherwise)
 
   unfoldable pub read_expr : Reader Token Expr
-  read_expr = read_placed conditional_node (read_both pair read_disjunction (read_opt is_if read_condition))
+  read_expr = read_placed (from conditional_node) (read_both pair read_disjunction (read_opt is_if read_condition))
 
   abbrev pub read_at_level : Level → Reader Token Expr
   read_at_level level.Expr = read_expr

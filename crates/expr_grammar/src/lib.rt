@@ -17,3 +17,12 @@ pub enum Level {
     /// an atom with what stands behind it
     Postfix,
 }
+
+/// What stands behind a first `long` in the spelling of a number type.
+#[derive(Clone, Copy, Debug, PartialEq, Eq)]
+pub enum Longs {
+    Bare,
+    Int,
+    Long,
+    LongInt,
+}

@@ -1,15 +1,19 @@
 //! What is left to read.
-ghost use Rattle.std.specs.Prelude.{◌≡◌, ◌∷◌, ◌<◌, length};
-ghost use Rattle.forms.specs.Readers.{sees, read_one};
+ghost use Rattle.std.specs.Prelude.{◌≡◌, ◌∷◌, ◌<◌, length, IfOk};
+ghost use Rattle.forms.specs.Readers.{sees, read_one, did};
 ghost use Rattle.forms.specs.Lists.{itself};
 ghost use Rattle.token_class.specs.Sets.{of};
 ghost use Rattle.pyx_parse.specs.Has.{has};
-ghost use Rattle.pyx_parse.specs.Reads.{Takes, Places};
+ghost use Rattle.pyx_parse.specs.Reads.{Takes, Places, Reads};
+ghost use Rattle.expr_grammar.specs.Words.{is_int, is_str};
+ghost use Rattle.expr_grammar.specs.Nodes as node;
+ghost use Rattle.expr_grammar.specs.Reading.{read_flag};
 
 use crate::set::{TokenSet, has};
-use cy_base::OutOfMemory;
-use pyx_lex::Token;
-use std::alloc::AllocError;
+use cy_base::{OutOfMemory, Text};
+use cy_tree::Ident;
+use pyx_lex::{Token, TokenKind};
+use std::alloc::{AllocError, Global};
 use std::marker::Model;
 use token_class::class_of;
 
@@ -112,5 +116,75 @@ impl<'a> Input<'a> {
             return Err(Halt::Unexpected);
         }
         Ok(self.take())
+    }
+
+    /// Takes the next token where it is of the set, and says whether it did.
+    #[tactic(auto, unfolding(forms::specs::Readers::read_one, forms::specs::Readers::read_or, forms::specs::Readers::read_nothing))]
+    pub fn flag(&mut self, set: TokenSet) -> bool
+        ensures { read_flag (has set) self.old ≡ did result self.new }
+    {
+        if !self.sees(set) {
+            return false;
+        }
+        self.take();
+        true
+    }
+
+    /// Takes the next token, which is to be a NAME of the set.
+    #[tactic(auto, unfolding(forms::specs::Readers::read_one))]
+    pub fn ident(&mut self, alloc: Global, set: TokenSet) -> Result<Ident, Halt>
+        ensures { Reads (read_one (of (has set)) node.ident self.old) result self.new }
+    {
+        if !self.sees(set) {
+            return Err(Halt::Unexpected);
+        }
+        let token = self.take();
+        let text = text_of(alloc, &token.kind)?;
+        Ok(Ident {
+            at: token.span.start,
+            text,
+        })
+    }
+
+    /// Takes the next token, which is to be a STRING.
+    #[tactic(auto, unfolding(forms::specs::Readers::read_one))]
+    pub fn string(&mut self, alloc: Global) -> Result<Text, Halt>
+        ensures { Reads (read_one (of is_str) node.text self.old) result self.new }
+    {
+        if !self.sees(TokenSet::Str) {
+            return Err(Halt::Unexpected);
+        }
+        let token = self.take();
+        Ok(text_of(alloc, &token.kind)?)
+    }
+
+    /// Takes the next token, which is to be an INT.
+    #[tactic(auto, unfolding(forms::specs::Readers::read_one))]
+    pub fn int(&mut self) -> Result<u128, Halt>
+        ensures { Reads (read_one (of is_int) node.int_of self.old) result self.new }
+    {
+        if !self.sees(TokenSet::Int) {
+            return Err(Halt::Unexpected);
+        }
+        let token = self.take();
+        Ok(number_of(&token.kind))
+    }
+}
+
+fn text_of(alloc: Global, kind: &TokenKind) -> Result<Text, OutOfMemory>
+    ensures { IfOk result (λ text. text ≡ node.text_of kind.now) }
+{
+    match kind {
+        TokenKind::Name(text) | TokenKind::Str(text) => text.copied(alloc),
+        _ => Text::from_str(alloc, ""),
+    }
+}
+
+fn number_of(kind: &TokenKind) -> u128
+    ensures { result ≡ node.number_of kind.now }
+{
+    match kind {
+        TokenKind::Int(value) => *value,
+        _ => 0,
     }
 }

@@ -3,6 +3,7 @@
 
 mod input;
 mod set;
+mod types;
 
 pub use input::{Halt, Input};
 pub use set::{TokenSet, has};
