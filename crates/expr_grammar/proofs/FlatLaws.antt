@@ -1,6 +1,5 @@
 -- What reads the forms that nest nothing is exact.
 use Rattle.std.proofs.Common.{ℕ, Bool, true, false, List, refl}
-use Rattle.std.specs.Prelude.{None}
 use Rattle.token_class.specs.declared.class.TokenClass.TheVariants as c
 use Rattle.cy_tree.specs.declared.expr.Comparison.{Comparison}
 use Rattle.cy_tree.specs.declared.expr.Expr.{Expr}
@@ -16,7 +15,7 @@ use Rattle.forms.specs.Forms.{none, either}
 use Rattle.forms.specs.Lists.{second, pair, itself}
 use Rattle.token_class.proofs.Laws.{ExactFor, optional, empty, token, choose, place, loop, loop_upto, passing, sets, after, after_maybe, either_of, maybe}
 use Rattle.expr_grammar.specs.Words.{is_name, is_plain_name, is_int, is_str, is_not, is_is, is_in, is_const, is_dot, is_comma, is_colon, is_question_mark, is_order, is_signed, is_unsigned, is_char, is_short, is_int_word, is_long, is_lone, begins_number, begins_cop, more_number}
-use Rattle.expr_grammar.specs.Nodes.{text, ident, lone, yes, short_node, second_long, long_node, unsigned_short, unsigned_long, number_node, named_node, some, dim_node, int_of, cons, str_node, attribute_node, order, is_node, in_node, not_in_node}
+use Rattle.expr_grammar.specs.Nodes.{text, ident, lone, yes, short_node, second_long, long_node, unsigned_short, unsigned_long, number_node, named_node, dim_node, int_of, cons, str_node, attribute_node, order, is_node, in_node, not_in_node}
 use Rattle.expr_grammar.specs.Grammar.{four, flag, short, length, long, signed, behind_unsigned, unsigned, number_words, member, type_name, dim, dims, cop, strings, attribute}
 use Rattle.expr_grammar.specs.Reading.{read_flag, read_short, read_length, read_long, read_signed, read_behind_unsigned, read_unsigned, read_number_words, read_member, read_type_name, read_dim, read_dims, read_cop, read_strings, read_attribute}
 

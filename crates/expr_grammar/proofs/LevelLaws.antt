@@ -13,11 +13,11 @@ use Rattle.forms.specs.Readers.{Reader, bad, unexpected}
 use Rattle.forms.specs.Lists.{Row, push, first, second, pair, itself}
 use Rattle.forms.proofs.Beginnings.{some_both, some_nothing, some_this, some_that}
 use Rattle.forms.proofs.TrailLaws.{some_trail}
-use Rattle.token_class.proofs.Laws.{ExactFor, optional, empty, token, seq, place, loop, list, list_upto, opened, some_token, within_room, sets, after, after_maybe, either_of, maybe}
+use Rattle.token_class.proofs.Laws.{ExactFor, optional, token, seq, place, loop, list, list_upto, opened, some_token, within_room, sets, after, after_maybe, either_of, maybe}
 use Rattle.expr_grammar.specs.declared.Level.{Level}
 use Rattle.expr_grammar.specs.declared.Level.TheVariants as level
 use Rattle.expr_grammar.specs.Words.{is_name, is_int, is_str, is_none, is_true, is_false, is_if, is_else, is_or, is_and, is_not, is_comma, is_colon, is_question_mark, is_less, is_greater, is_open_parenthesis, is_close_parenthesis, is_open_bracket, is_close_bracket, is_open_brace, is_close_brace, is_bar, is_caret, is_ampersand, is_shift, is_sum, is_term, is_prefix, begins_postfix, begins_unary, begins_expr, begins_type, begins_index, trails, more_postfix, more_term, more_sum, more_shift, more_band, more_xor, more_bor, more_cmp, more_and, more_or, more_expr, more_type}
-use Rattle.expr_grammar.specs.Nodes.{from, type_node, triple, some, name_node, int_node, none_node, true_node, false_node, group_node, list_node, dict_node, call_node, item_node, low_slice, index_node, postfix_node, prefix_node, cast_node, term_operand, term_node, sum_operand, sum_node, shift_operand, shift_node, operand, bit_and_node, bit_xor_node, bit_or_node, compare_node, not_node, and_node, or_node, conditional_node}
+use Rattle.expr_grammar.specs.Nodes.{from, type_node, triple, name_node, int_node, none_node, true_node, false_node, group_node, list_node, dict_node, call_node, item_node, low_slice, index_node, postfix_node, prefix_node, cast_node, term_operand, term_node, sum_operand, sum_node, shift_operand, shift_node, operand, bit_and_node, bit_xor_node, bit_or_node, compare_node, not_node, and_node, or_node, conditional_node}
 use Rattle.expr_grammar.specs.Grammar.{two, argument_rule, pair_of_three, is_positive, type, exprs, arguments, item, items, high, index, indexes, group, list_display, dict_display, atom, call, indexing, part, postfix, prefixed, behind_type, cast, unary, term, sum, shift, bit_and, bit_xor, bit_or, compare, negated, negation, conjunction, disjunction, otherwise, condition, expr, at_level, deep, Spells}
 use Rattle.expr_grammar.specs.Reading.{read_type, read_exprs, read_arguments, read_item, read_items, read_high, read_index, read_indexes, read_group, read_list_display, read_dict_display, read_atom, read_call, read_indexing, read_part, read_postfix, read_prefixed, read_behind_type, read_cast, read_unary, read_term, read_sum, read_shift, read_bit_and, read_bit_xor, read_bit_or, read_compare, read_negated, read_negation, read_conjunction, read_disjunction, read_otherwise, read_condition, read_expr, read_at_level, reads}
 use Rattle.expr_grammar.proofs.FlatLaws.{const_flag, question_flag, type_name_exact, dims_exact, cop_exact, strings_exact, attribute_exact}

@@ -1,5 +1,5 @@
 -- What reads an expression, in the shape of the grammar.
-use Rattle.std.specs.Prelude.{ℕ, zero, suc, Bool, true, false, cond, List, [], ◌∷◌, Option, Some, None}
+use Rattle.std.specs.Prelude.{ℕ, zero, suc, Bool, true, false, List, [], Option, None}
 use Rattle.pyx_lex.specs.declared.token.Token.{Token}
 use Rattle.token_class.specs.Sets.{Classes, of}
 use Rattle.cy_tree.specs.declared.expr.Comparison.{Comparison}
@@ -15,9 +15,9 @@ use Rattle.expr_grammar.specs.declared.Level.{Level}
 use Rattle.expr_grammar.specs.declared.Longs.{Longs}
 use Rattle.expr_grammar.specs.declared.Longs.TheVariants as longs
 use Rattle.expr_grammar.specs.declared.Level.TheVariants as level
-use Rattle.forms.specs.Lists.{Row, push, first, second, pair, itself, trail, trail_upto, many_upto, read_trail, read_trail_upto, read_many_upto}
-use Rattle.expr_grammar.specs.Words.{is_name, is_plain_name, is_int, is_str, is_none, is_true, is_false, is_if, is_else, is_or, is_and, is_not, is_is, is_in, is_const, is_dot, is_comma, is_colon, is_question_mark, is_less, is_greater, is_open_parenthesis, is_close_parenthesis, is_open_bracket, is_close_bracket, is_open_brace, is_close_brace, is_bar, is_caret, is_ampersand, is_shift, is_sum, is_term, is_prefix, is_order, is_signed, is_unsigned, is_char, is_short, is_int_word, is_long, is_lone, begins_postfix, begins_unary, begins_expr, begins_number, begins_cop, opens, trails, begins_index}
-use Rattle.expr_grammar.specs.Nodes.{class, from, text, ident, lone, yes, short_node, second_long, long_node, unsigned_short, unsigned_long, number_node, named_node, some, dim_node, int_of, cons, type_node, triple, name_node, int_node, none_node, true_node, false_node, str_node, group_node, list_node, dict_node, attribute_node, call_node, item_node, low_slice, index_node, postfix_node, prefix_node, cast_node, term_operand, term_node, sum_operand, sum_node, shift_operand, shift_node, operand, bit_and_node, bit_xor_node, bit_or_node, order, is_node, in_node, not_in_node, compare_node, not_node, and_node, or_node, conditional_node}
+use Rattle.forms.specs.Lists.{Row, push, first, second, pair, itself, read_trail, read_trail_upto, read_many_upto}
+use Rattle.expr_grammar.specs.Words.{is_name, is_plain_name, is_int, is_str, is_none, is_true, is_false, is_if, is_else, is_or, is_and, is_not, is_is, is_in, is_const, is_dot, is_comma, is_colon, is_question_mark, is_less, is_greater, is_open_parenthesis, is_close_parenthesis, is_open_bracket, is_close_bracket, is_open_brace, is_close_brace, is_bar, is_caret, is_ampersand, is_shift, is_sum, is_term, is_prefix, is_order, is_signed, is_unsigned, is_char, is_short, is_int_word, is_long, is_lone, begins_expr, begins_number, begins_cop, trails, begins_index}
+use Rattle.expr_grammar.specs.Nodes.{from, text, ident, lone, yes, short_node, second_long, long_node, unsigned_short, unsigned_long, number_node, named_node, some, dim_node, int_of, cons, type_node, triple, name_node, int_node, none_node, true_node, false_node, str_node, group_node, list_node, dict_node, attribute_node, call_node, item_node, low_slice, index_node, postfix_node, prefix_node, cast_node, term_operand, term_node, sum_operand, sum_node, shift_operand, shift_node, operand, bit_and_node, bit_xor_node, bit_or_node, order, is_node, in_node, not_in_node, compare_node, not_node, and_node, or_node, conditional_node}
 use Rattle.cy_tree.specs.declared.types.Ident.{Ident}
 use Rattle.forms.specs.Readers.{Reader, bad, unexpected, read_one, read_both, read_nothing, read_or, read_many, read_placed, read_guard, refuse}
 use Rattle.expr_grammar.specs.Grammar.{two, four, argument_rule, pair_of_three, is_positive}

@@ -2,7 +2,7 @@
 use Rattle.std.proofs.Common.{◌≡◌, ℕ, Bool, true, false, cond, ◌⊎◌, inl, inr, List, [], ◌∷◌, ◌++◌, refl, sym, ◌∙◌, ap, subst}
 use Rattle.std.specs.Prelude.{Option, Some, None}
 use Rattle.forms.specs.Forms.{Mark, plain, IsClean, Form, Set, Over, over, guard, placed, Begins, Sentence, Sentences}
-use Rattle.forms.specs.Readers.{Fault, unexpected, limit, Outcome, did, bad, Reader, sees, rest_of, put, limit_at, refuse, read_guard, read_placed, and_then}
+use Rattle.forms.specs.Readers.{Fault, unexpected, limit, Outcome, did, bad, Reader, sees, rest_of, put, limit_at, refuse, read_guard, read_placed}
 use Rattle.forms.specs.Exact.{marked, expected, Goes, Exact}
 use Rattle.forms.proofs.Facts.{cases, sees_same, no_front, did_value, did_rest, did_bad, goes_as}
 use Rattle.forms.proofs.Beginnings.{sentences_over, sentences_placed, sentences_as, sentences_set}

@@ -1,7 +1,7 @@
 -- A loop that collects, beside `read_many`.
-use Rattle.std.proofs.Common.{◌≡◌, ℕ, zero, suc, ◌+◌, ◌-◌, ◌<◌, ◌≤◌, Bool, true, false, List, [], ◌∷◌, ◌++◌, length, refl, sym, ◌∙◌, ap, append_assoc, append-nil, arith}
+use Rattle.std.proofs.Common.{◌≡◌, ℕ, suc, ◌+◌, ◌-◌, ◌<◌, ◌≤◌, true, false, List, [], ◌∷◌, ◌++◌, length, refl, sym, ◌∙◌, ap, append_assoc, append-nil, arith}
 use Rattle.forms.specs.Forms.{Set}
-use Rattle.forms.specs.Readers.{Fault, Outcome, did, bad, Reader, and_then, sees, read_both, read_or, read_nothing, read_turns, read_turned, read_one_more, read_many, cons}
+use Rattle.forms.specs.Readers.{Fault, Outcome, did, bad, Reader, and_then, sees, read_nothing, read_turns, read_turned, read_one_more, read_many}
 use Rattle.forms.proofs.Facts.{or_this, or_that}
 use Rattle.forms.proofs.Pair.{both_then, both_at_first}
 
