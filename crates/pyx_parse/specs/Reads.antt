@@ -24,3 +24,7 @@ Takes outcome (Err e) new = (e ≡ Unexpected) × (outcome ≡ bad unexpected ne
 abbrev pub Places : List Token → Result ℕ Halt → Type 0
 Places [] result = result ≡ Err Unexpected
 Places (x ∷ ts) result = result ≡ Ok x.span.start
+
+-- reading takes no memory, and fails
+abbrev pub Fails : {A : Type 0} → Outcome Token A → Halt → List Token → Type 0
+Fails outcome e new = (e ≢ Memory) × (outcome ≡ bad (fault_of e) new)

@@ -5,17 +5,17 @@ ghost use Rattle.forms.specs.Lists.{itself};
 ghost use Rattle.token_class.specs.Sets.{of};
 ghost use Rattle.pyx_parse.specs.Has.{has};
 ghost use Rattle.pyx_parse.specs.Reads.{Takes, Places, Reads};
-ghost use Rattle.expr_grammar.specs.Words.{is_int, is_str};
+ghost use Rattle.expr_grammar.specs.Words.{is_int, is_lone, is_str};
 ghost use Rattle.expr_grammar.specs.Nodes as node;
 ghost use Rattle.expr_grammar.specs.Reading.{read_flag};
 
 use crate::set::{TokenSet, has};
 use cy_base::{OutOfMemory, Text};
-use cy_tree::Ident;
+use cy_tree::{Ident, NumberWords};
 use pyx_lex::{Token, TokenKind};
 use std::alloc::{AllocError, Global};
 use std::marker::Model;
-use token_class::class_of;
+use token_class::{TokenClass, class_of};
 
 /// Why reading stops. The project's own.
 #[derive(Clone, Copy, Debug, PartialEq, Eq)]
@@ -169,6 +169,18 @@ impl<'a> Input<'a> {
         let token = self.take();
         Ok(number_of(&token.kind))
     }
+
+    /// Takes the next token, which is to be a number word that is a type by itself alone.
+    #[tactic(auto, unfolding(forms::specs::Readers::read_one))]
+    pub fn lone(&mut self) -> Result<NumberWords, Halt>
+        ensures { Reads (read_one (of is_lone) node.lone self.old) result self.new }
+    {
+        if !self.sees(TokenSet::Lone) {
+            return Err(Halt::Unexpected);
+        }
+        let token = self.take();
+        Ok(lone_of(class_of(&token.kind)))
+    }
 }
 
 fn text_of(alloc: Global, kind: &TokenKind) -> Result<Text, OutOfMemory>
@@ -186,5 +198,16 @@ fn number_of(kind: &TokenKind) -> u128
     match kind {
         TokenKind::Int(value) => *value,
         _ => 0,
+    }
+}
+
+fn lone_of(class: TokenClass) -> NumberWords
+    ensures { result ≡ node.lone_of class }
+{
+    match class {
+        TokenClass::PySsizeT => NumberWords::PySsizeT,
+        TokenClass::SizeT => NumberWords::SizeT,
+        TokenClass::Bint => NumberWords::Bint,
+        _ => NumberWords::Void,
     }
 }

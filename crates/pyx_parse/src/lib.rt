@@ -7,3 +7,4 @@ mod types;
 
 pub use input::{Halt, Input};
 pub use set::{TokenSet, has};
+pub use types::{dims, type_name};

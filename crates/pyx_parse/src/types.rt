@@ -7,7 +7,7 @@ ghost use Rattle.expr_grammar.specs.Words as set;
 ghost use Rattle.expr_grammar.specs.Grammar.{four, two};
 ghost use Rattle.expr_grammar.specs.Reading as spec;
 ghost use Rattle.expr_grammar.specs.Nodes as node;
-ghost use Rattle.pyx_parse.specs.Reads.{Reads, fault_of};
+ghost use Rattle.pyx_parse.specs.Reads.{Reads, Fails};
 
 use crate::input::{Halt, Input};
 use crate::set::TokenSet;
@@ -15,7 +15,6 @@ use cy_tree::{Dim, Ident, NumberWords, TypeName};
 use expr_grammar::Longs;
 use sqlite_items::Items;
 use std::alloc::{AllocError, Global};
-use token_class::{TokenClass, class_of};
 
 #[tactic(auto, unfolding(expr_grammar::specs::Reading::read_short, forms::specs::Readers::read_both))]
 fn short(input: &mut Input<'_>) -> Result<NumberWords, Halt>
@@ -114,7 +113,8 @@ fn unsigned_long(input: &mut Input<'_>) -> Result<NumberWords, Halt>
 fn unsigned_int_or_long(input: &mut Input<'_>) -> Result<NumberWords, Halt>
     ensures { Reads (read_or (of set.is_int_word) (read_one (of set.is_int_word) (λ x. NumberWords.UnsignedInt)) (read_or (of set.is_long) (read_both node.unsigned_long (read_one (of set.is_long) itself) spec.read_length) (read_nothing NumberWords.Unsigned)) input.old) result input.new }
 {
-    if input.flag(TokenSet::IntWord) {
+    if input.sees(TokenSet::IntWord) {
+        input.expect(TokenSet::IntWord)?;
         return Ok(NumberWords::UnsignedInt);
     }
     if input.sees(TokenSet::Long) {
@@ -127,7 +127,8 @@ fn unsigned_int_or_long(input: &mut Input<'_>) -> Result<NumberWords, Halt>
 fn behind_unsigned(input: &mut Input<'_>) -> Result<NumberWords, Halt>
     ensures { Reads (spec.read_behind_unsigned input.old) result input.new }
 {
-    if input.flag(TokenSet::Char) {
+    if input.sees(TokenSet::Char) {
+        input.expect(TokenSet::Char)?;
         return Ok(NumberWords::UnsignedChar);
     }
     if input.sees(TokenSet::Short) {
@@ -142,25 +143,6 @@ fn unsigned(input: &mut Input<'_>) -> Result<NumberWords, Halt>
 {
     input.expect(TokenSet::Unsigned)?;
     behind_unsigned(input)
-}
-
-fn lone_of(class: TokenClass) -> NumberWords
-    ensures { result ≡ node.lone_of class }
-{
-    match class {
-        TokenClass::PySsizeT => NumberWords::PySsizeT,
-        TokenClass::SizeT => NumberWords::SizeT,
-        TokenClass::Bint => NumberWords::Bint,
-        _ => NumberWords::Void,
-    }
-}
-
-#[tactic(auto, using(crate::proofs::Taken::taken), unfolding(forms::specs::Readers::read_one))]
-fn lone(input: &mut Input<'_>) -> Result<NumberWords, Halt>
-    ensures { Reads (read_one (of set.is_lone) node.lone input.old) result input.new }
-{
-    let token = input.expect(TokenSet::Lone)?;
-    Ok(lone_of(class_of(&token.kind)))
 }
 
 #[tactic(auto, unfolding(expr_grammar::specs::Reading::read_number_words, forms::specs::Readers::read_or, forms::specs::Readers::read_one))]
@@ -183,7 +165,7 @@ fn number_words(input: &mut Input<'_>) -> Result<NumberWords, Halt>
     if input.sees(TokenSet::Long) {
         return long(input);
     }
-    lone(input)
+    input.lone()
 }
 
 #[tactic(auto, unfolding(expr_grammar::specs::Reading::read_member, forms::specs::Readers::read_both))]
@@ -207,7 +189,7 @@ fn named(alloc: Global, input: &mut Input<'_>) -> Result<TypeName, Halt>
 }
 
 #[tactic(auto, unfolding(expr_grammar::specs::Reading::read_type_name, forms::specs::Readers::read_both, forms::specs::Readers::read_or, forms::specs::Readers::read_nothing))]
-pub(crate) fn type_name(alloc: Global, input: &mut Input<'_>) -> Result<TypeName, Halt>
+pub fn type_name(alloc: Global, input: &mut Input<'_>) -> Result<TypeName, Halt>
     ensures { Reads (spec.read_type_name input.old) result input.new }
 {
     if input.sees(TokenSet::BeginsNumber) {
@@ -252,7 +234,7 @@ fn next_dim(input: &mut Input<'_>) -> Result<Dim, Halt>
 // A fourth dimension is one too many.
 #[tactic(auto, unfolding(forms::specs::Readers::read_both, forms::specs::Readers::refuse))]
 fn fourth_dim(input: &mut Input<'_>) -> Halt
-    ensures rule { read_both second (read_one (of set.is_comma) itself) (refuse (of set.is_colon) four) input.old ≡ bad (fault_of result) input.new }
+    ensures rule { Fails (read_both second (read_one (of set.is_comma) itself) (refuse {A = Dim} (of set.is_colon) four) input.old) result input.new }
 {
     if input.expect(TokenSet::Comma).is_err() {
         return Halt::Unexpected;
@@ -309,7 +291,7 @@ fn behind_first(alloc: Global, input: &mut Input<'_>) -> Result<Items<Dim>, Halt
 }
 
 #[tactic(auto, unfolding(expr_grammar::specs::Reading::read_dims, forms::specs::Readers::read_both))]
-pub(crate) fn dims(alloc: Global, input: &mut Input<'_>) -> Result<Items<Dim>, Halt>
+pub fn dims(alloc: Global, input: &mut Input<'_>) -> Result<Items<Dim>, Halt>
     ensures { Reads (spec.read_dims input.old) result input.new }
 {
     let first = dim(input)?;
