@@ -95,7 +95,10 @@ pub fn has(set: TokenSet, class: TokenClass) -> bool
         TokenSet::Shift => matches!(class, TokenClass::ShiftLeft | TokenClass::ShiftRight),
         TokenSet::Sum => matches!(class, TokenClass::Plus | TokenClass::Minus),
         TokenSet::Term => is_term(class),
-        TokenSet::Prefix => matches!(class, TokenClass::Plus | TokenClass::Minus | TokenClass::Tilde),
+        TokenSet::Prefix => matches!(
+            class,
+            TokenClass::Plus | TokenClass::Minus | TokenClass::Tilde
+        ),
         TokenSet::Order => is_order(class),
         TokenSet::Signed => matches!(class, TokenClass::Signed),
         TokenSet::Unsigned => matches!(class, TokenClass::Unsigned),
@@ -108,7 +111,10 @@ pub fn has(set: TokenSet, class: TokenClass) -> bool
         TokenSet::BeginsNumber => begins_number(class),
         TokenSet::BeginsCop => begins_cop(class),
         TokenSet::BeginsIndex => begins_index(class),
-        TokenSet::Trails => matches!(class, TokenClass::Dot | TokenClass::OpenParenthesis | TokenClass::OpenBracket),
+        TokenSet::Trails => matches!(
+            class,
+            TokenClass::Dot | TokenClass::OpenParenthesis | TokenClass::OpenBracket
+        ),
         TokenSet::Opens => opens(class),
     }
 }
@@ -116,53 +122,165 @@ pub fn has(set: TokenSet, class: TokenClass) -> bool
 fn is_name(class: TokenClass) -> bool
     ensures { result ≡ words.is_name class }
 {
-    matches!(class, TokenClass::Name | TokenClass::Signed | TokenClass::Unsigned | TokenClass::Char | TokenClass::Short | TokenClass::IntWord | TokenClass::Long | TokenClass::PySsizeT | TokenClass::SizeT | TokenClass::Bint | TokenClass::Void)
+    matches!(
+        class,
+        TokenClass::Name
+            | TokenClass::Signed
+            | TokenClass::Unsigned
+            | TokenClass::Char
+            | TokenClass::Short
+            | TokenClass::IntWord
+            | TokenClass::Long
+            | TokenClass::PySsizeT
+            | TokenClass::SizeT
+            | TokenClass::Bint
+            | TokenClass::Void
+    )
 }
 
 fn is_term(class: TokenClass) -> bool
     ensures { result ≡ words.is_term class }
 {
-    matches!(class, TokenClass::Star | TokenClass::Slash | TokenClass::FloorDivide | TokenClass::Percent)
+    matches!(
+        class,
+        TokenClass::Star | TokenClass::Slash | TokenClass::FloorDivide | TokenClass::Percent
+    )
 }
 
 fn is_order(class: TokenClass) -> bool
     ensures { result ≡ words.is_order class }
 {
-    matches!(class, TokenClass::Less | TokenClass::LessEqual | TokenClass::Equal | TokenClass::NotEqual | TokenClass::Greater | TokenClass::GreaterEqual)
+    matches!(
+        class,
+        TokenClass::Less
+            | TokenClass::LessEqual
+            | TokenClass::Equal
+            | TokenClass::NotEqual
+            | TokenClass::Greater
+            | TokenClass::GreaterEqual
+    )
 }
 
 fn is_lone(class: TokenClass) -> bool
     ensures { result ≡ words.is_lone class }
 {
-    matches!(class, TokenClass::PySsizeT | TokenClass::SizeT | TokenClass::Bint | TokenClass::Void)
+    matches!(
+        class,
+        TokenClass::PySsizeT | TokenClass::SizeT | TokenClass::Bint | TokenClass::Void
+    )
 }
 
 fn begins_expr(class: TokenClass) -> bool
     ensures { result ≡ words.begins_expr class }
 {
-    matches!(class, TokenClass::Name | TokenClass::Signed | TokenClass::Unsigned | TokenClass::Char | TokenClass::Short | TokenClass::IntWord | TokenClass::Long | TokenClass::PySsizeT | TokenClass::SizeT | TokenClass::Bint | TokenClass::Void | TokenClass::Int | TokenClass::Str | TokenClass::None | TokenClass::True | TokenClass::False | TokenClass::OpenParenthesis | TokenClass::OpenBracket | TokenClass::OpenBrace | TokenClass::Plus | TokenClass::Minus | TokenClass::Tilde | TokenClass::Less | TokenClass::Not)
+    matches!(
+        class,
+        TokenClass::Name
+            | TokenClass::Signed
+            | TokenClass::Unsigned
+            | TokenClass::Char
+            | TokenClass::Short
+            | TokenClass::IntWord
+            | TokenClass::Long
+            | TokenClass::PySsizeT
+            | TokenClass::SizeT
+            | TokenClass::Bint
+            | TokenClass::Void
+            | TokenClass::Int
+            | TokenClass::Str
+            | TokenClass::None
+            | TokenClass::True
+            | TokenClass::False
+            | TokenClass::OpenParenthesis
+            | TokenClass::OpenBracket
+            | TokenClass::OpenBrace
+            | TokenClass::Plus
+            | TokenClass::Minus
+            | TokenClass::Tilde
+            | TokenClass::Less
+            | TokenClass::Not
+    )
 }
 
 fn begins_number(class: TokenClass) -> bool
     ensures { result ≡ words.begins_number class }
 {
-    matches!(class, TokenClass::Signed | TokenClass::Unsigned | TokenClass::Short | TokenClass::IntWord | TokenClass::Long | TokenClass::PySsizeT | TokenClass::SizeT | TokenClass::Bint | TokenClass::Void)
+    matches!(
+        class,
+        TokenClass::Signed
+            | TokenClass::Unsigned
+            | TokenClass::Short
+            | TokenClass::IntWord
+            | TokenClass::Long
+            | TokenClass::PySsizeT
+            | TokenClass::SizeT
+            | TokenClass::Bint
+            | TokenClass::Void
+    )
 }
 
 fn begins_cop(class: TokenClass) -> bool
     ensures { result ≡ words.begins_cop class }
 {
-    matches!(class, TokenClass::Less | TokenClass::LessEqual | TokenClass::Equal | TokenClass::NotEqual | TokenClass::Greater | TokenClass::GreaterEqual | TokenClass::Is | TokenClass::In | TokenClass::Not)
+    matches!(
+        class,
+        TokenClass::Less
+            | TokenClass::LessEqual
+            | TokenClass::Equal
+            | TokenClass::NotEqual
+            | TokenClass::Greater
+            | TokenClass::GreaterEqual
+            | TokenClass::Is
+            | TokenClass::In
+            | TokenClass::Not
+    )
 }
 
 fn begins_index(class: TokenClass) -> bool
     ensures { result ≡ words.begins_index class }
 {
-    matches!(class, TokenClass::Name | TokenClass::Signed | TokenClass::Unsigned | TokenClass::Char | TokenClass::Short | TokenClass::IntWord | TokenClass::Long | TokenClass::PySsizeT | TokenClass::SizeT | TokenClass::Bint | TokenClass::Void | TokenClass::Int | TokenClass::Str | TokenClass::None | TokenClass::True | TokenClass::False | TokenClass::OpenParenthesis | TokenClass::OpenBracket | TokenClass::OpenBrace | TokenClass::Plus | TokenClass::Minus | TokenClass::Tilde | TokenClass::Less | TokenClass::Not | TokenClass::Colon)
+    matches!(
+        class,
+        TokenClass::Name
+            | TokenClass::Signed
+            | TokenClass::Unsigned
+            | TokenClass::Char
+            | TokenClass::Short
+            | TokenClass::IntWord
+            | TokenClass::Long
+            | TokenClass::PySsizeT
+            | TokenClass::SizeT
+            | TokenClass::Bint
+            | TokenClass::Void
+            | TokenClass::Int
+            | TokenClass::Str
+            | TokenClass::None
+            | TokenClass::True
+            | TokenClass::False
+            | TokenClass::OpenParenthesis
+            | TokenClass::OpenBracket
+            | TokenClass::OpenBrace
+            | TokenClass::Plus
+            | TokenClass::Minus
+            | TokenClass::Tilde
+            | TokenClass::Less
+            | TokenClass::Not
+            | TokenClass::Colon
+    )
 }
 
 fn opens(class: TokenClass) -> bool
     ensures { result ≡ words.opens class }
 {
-    matches!(class, TokenClass::OpenParenthesis | TokenClass::OpenBracket | TokenClass::OpenBrace | TokenClass::Plus | TokenClass::Minus | TokenClass::Tilde | TokenClass::Less | TokenClass::Not)
+    matches!(
+        class,
+        TokenClass::OpenParenthesis
+            | TokenClass::OpenBracket
+            | TokenClass::OpenBrace
+            | TokenClass::Plus
+            | TokenClass::Minus
+            | TokenClass::Tilde
+            | TokenClass::Less
+            | TokenClass::Not
+    )
 }
