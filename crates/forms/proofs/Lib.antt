@@ -1,0 +1,13 @@
+pub mod Facts
+pub mod Beginnings
+pub mod OneLaws
+pub mod Pair
+pub mod BothLaws
+pub mod OrLaws
+pub mod GuardLaws
+pub mod Turns
+pub mod ListLaws
+pub mod TrailLaws
+pub mod Answering
+pub mod Packs
+pub mod Loops

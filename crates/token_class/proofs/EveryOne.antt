@@ -1,0 +1,117 @@
+-- A test that computes over every class is a fact about each.
+use Rattle.std.proofs.Common.{◌≡◌, Bool, true, false, ◌&&◌, refl}
+use Rattle.token_class.specs.declared.class.TokenClass.{TokenClass}
+use Rattle.token_class.specs.declared.class.TokenClass.TheVariants as c
+use Rattle.token_class.specs.Every.{every}
+
+and_both : (a b : Bool) → (a && b) ≡ true → (a ≡ true) × (b ≡ true)
+and_both true b h = (refl, h)
+and_both false b h = cc
+
+pub every_one : (p : TokenClass → Bool) → every p ≡ true → (x : TokenClass) → p x ≡ true
+every_one p h =
+    let h0 = and_both (p c.False) _ h in
+    let h1 = and_both (p c.None) _ h0.1 in
+    let h2 = and_both (p c.True) _ h1.1 in
+    let h3 = and_both (p c.And) _ h2.1 in
+    let h4 = and_both (p c.As) _ h3.1 in
+    let h5 = and_both (p c.Assert) _ h4.1 in
+    let h6 = and_both (p c.Async) _ h5.1 in
+    let h7 = and_both (p c.Await) _ h6.1 in
+    let h8 = and_both (p c.Break) _ h7.1 in
+    let h9 = and_both (p c.Cdef) _ h8.1 in
+    let h10 = and_both (p c.Cimport) _ h9.1 in
+    let h11 = and_both (p c.Class) _ h10.1 in
+    let h12 = and_both (p c.Const) _ h11.1 in
+    let h13 = and_both (p c.Continue) _ h12.1 in
+    let h14 = and_both (p c.Cpdef) _ h13.1 in
+    let h15 = and_both (p c.Ctypedef) _ h14.1 in
+    let h16 = and_both (p c.Def) _ h15.1 in
+    let h17 = and_both (p c.Del) _ h16.1 in
+    let h18 = and_both (p c.Elif) _ h17.1 in
+    let h19 = and_both (p c.Else) _ h18.1 in
+    let h20 = and_both (p c.Except) _ h19.1 in
+    let h21 = and_both (p c.Finally) _ h20.1 in
+    let h22 = and_both (p c.For) _ h21.1 in
+    let h23 = and_both (p c.From) _ h22.1 in
+    let h24 = and_both (p c.Gil) _ h23.1 in
+    let h25 = and_both (p c.Global) _ h24.1 in
+    let h26 = and_both (p c.If) _ h25.1 in
+    let h27 = and_both (p c.Import) _ h26.1 in
+    let h28 = and_both (p c.In) _ h27.1 in
+    let h29 = and_both (p c.Include) _ h28.1 in
+    let h30 = and_both (p c.Is) _ h29.1 in
+    let h31 = and_both (p c.Lambda) _ h30.1 in
+    let h32 = and_both (p c.Noexcept) _ h31.1 in
+    let h33 = and_both (p c.Nogil) _ h32.1 in
+    let h34 = and_both (p c.Nonlocal) _ h33.1 in
+    let h35 = and_both (p c.Not) _ h34.1 in
+    let h36 = and_both (p c.Or) _ h35.1 in
+    let h37 = and_both (p c.Pass) _ h36.1 in
+    let h38 = and_both (p c.Public) _ h37.1 in
+    let h39 = and_both (p c.Raise) _ h38.1 in
+    let h40 = and_both (p c.Readonly) _ h39.1 in
+    let h41 = and_both (p c.Return) _ h40.1 in
+    let h42 = and_both (p c.Try) _ h41.1 in
+    let h43 = and_both (p c.While) _ h42.1 in
+    let h44 = and_both (p c.With) _ h43.1 in
+    let h45 = and_both (p c.Yield) _ h44.1 in
+    let h46 = and_both (p c.ShiftLeftAssign) _ h45.1 in
+    let h47 = and_both (p c.ShiftRightAssign) _ h46.1 in
+    let h48 = and_both (p c.FloorDivideAssign) _ h47.1 in
+    let h49 = and_both (p c.Equal) _ h48.1 in
+    let h50 = and_both (p c.NotEqual) _ h49.1 in
+    let h51 = and_both (p c.LessEqual) _ h50.1 in
+    let h52 = and_both (p c.GreaterEqual) _ h51.1 in
+    let h53 = and_both (p c.ShiftLeft) _ h52.1 in
+    let h54 = and_both (p c.ShiftRight) _ h53.1 in
+    let h55 = and_both (p c.FloorDivide) _ h54.1 in
+    let h56 = and_both (p c.PlusAssign) _ h55.1 in
+    let h57 = and_both (p c.MinusAssign) _ h56.1 in
+    let h58 = and_both (p c.StarAssign) _ h57.1 in
+    let h59 = and_both (p c.SlashAssign) _ h58.1 in
+    let h60 = and_both (p c.PercentAssign) _ h59.1 in
+    let h61 = and_both (p c.AmpersandAssign) _ h60.1 in
+    let h62 = and_both (p c.BarAssign) _ h61.1 in
+    let h63 = and_both (p c.CaretAssign) _ h62.1 in
+    let h64 = and_both (p c.Plus) _ h63.1 in
+    let h65 = and_both (p c.Minus) _ h64.1 in
+    let h66 = and_both (p c.Star) _ h65.1 in
+    let h67 = and_both (p c.Slash) _ h66.1 in
+    let h68 = and_both (p c.Percent) _ h67.1 in
+    let h69 = and_both (p c.Ampersand) _ h68.1 in
+    let h70 = and_both (p c.Bar) _ h69.1 in
+    let h71 = and_both (p c.Caret) _ h70.1 in
+    let h72 = and_both (p c.Tilde) _ h71.1 in
+    let h73 = and_both (p c.Less) _ h72.1 in
+    let h74 = and_both (p c.Greater) _ h73.1 in
+    let h75 = and_both (p c.Assign) _ h74.1 in
+    let h76 = and_both (p c.OpenParenthesis) _ h75.1 in
+    let h77 = and_both (p c.CloseParenthesis) _ h76.1 in
+    let h78 = and_both (p c.OpenBracket) _ h77.1 in
+    let h79 = and_both (p c.CloseBracket) _ h78.1 in
+    let h80 = and_both (p c.OpenBrace) _ h79.1 in
+    let h81 = and_both (p c.CloseBrace) _ h80.1 in
+    let h82 = and_both (p c.Comma) _ h81.1 in
+    let h83 = and_both (p c.Colon) _ h82.1 in
+    let h84 = and_both (p c.Semicolon) _ h83.1 in
+    let h85 = and_both (p c.Dot) _ h84.1 in
+    let h86 = and_both (p c.QuestionMark) _ h85.1 in
+    let h87 = and_both (p c.Signed) _ h86.1 in
+    let h88 = and_both (p c.Unsigned) _ h87.1 in
+    let h89 = and_both (p c.Char) _ h88.1 in
+    let h90 = and_both (p c.Short) _ h89.1 in
+    let h91 = and_both (p c.IntWord) _ h90.1 in
+    let h92 = and_both (p c.Long) _ h91.1 in
+    let h93 = and_both (p c.PySsizeT) _ h92.1 in
+    let h94 = and_both (p c.SizeT) _ h93.1 in
+    let h95 = and_both (p c.Bint) _ h94.1 in
+    let h96 = and_both (p c.Void) _ h95.1 in
+    let h97 = and_both (p c.Name) _ h96.1 in
+    let h98 = and_both (p c.Int) _ h97.1 in
+    let h99 = and_both (p c.Str) _ h98.1 in
+    let h100 = and_both (p c.Newline) _ h99.1 in
+    let h101 = and_both (p c.Indent) _ h100.1 in
+    let h102 = and_both (p c.Dedent) _ h101.1 in
+    let h103 = and_both (p c.End) _ h102.1 in
+    elim [ c.False ↦ h0.0 | c.None ↦ h1.0 | c.True ↦ h2.0 | c.And ↦ h3.0 | c.As ↦ h4.0 | c.Assert ↦ h5.0 | c.Async ↦ h6.0 | c.Await ↦ h7.0 | c.Break ↦ h8.0 | c.Cdef ↦ h9.0 | c.Cimport ↦ h10.0 | c.Class ↦ h11.0 | c.Const ↦ h12.0 | c.Continue ↦ h13.0 | c.Cpdef ↦ h14.0 | c.Ctypedef ↦ h15.0 | c.Def ↦ h16.0 | c.Del ↦ h17.0 | c.Elif ↦ h18.0 | c.Else ↦ h19.0 | c.Except ↦ h20.0 | c.Finally ↦ h21.0 | c.For ↦ h22.0 | c.From ↦ h23.0 | c.Gil ↦ h24.0 | c.Global ↦ h25.0 | c.If ↦ h26.0 | c.Import ↦ h27.0 | c.In ↦ h28.0 | c.Include ↦ h29.0 | c.Is ↦ h30.0 | c.Lambda ↦ h31.0 | c.Noexcept ↦ h32.0 | c.Nogil ↦ h33.0 | c.Nonlocal ↦ h34.0 | c.Not ↦ h35.0 | c.Or ↦ h36.0 | c.Pass ↦ h37.0 | c.Public ↦ h38.0 | c.Raise ↦ h39.0 | c.Readonly ↦ h40.0 | c.Return ↦ h41.0 | c.Try ↦ h42.0 | c.While ↦ h43.0 | c.With ↦ h44.0 | c.Yield ↦ h45.0 | c.ShiftLeftAssign ↦ h46.0 | c.ShiftRightAssign ↦ h47.0 | c.FloorDivideAssign ↦ h48.0 | c.Equal ↦ h49.0 | c.NotEqual ↦ h50.0 | c.LessEqual ↦ h51.0 | c.GreaterEqual ↦ h52.0 | c.ShiftLeft ↦ h53.0 | c.ShiftRight ↦ h54.0 | c.FloorDivide ↦ h55.0 | c.PlusAssign ↦ h56.0 | c.MinusAssign ↦ h57.0 | c.StarAssign ↦ h58.0 | c.SlashAssign ↦ h59.0 | c.PercentAssign ↦ h60.0 | c.AmpersandAssign ↦ h61.0 | c.BarAssign ↦ h62.0 | c.CaretAssign ↦ h63.0 | c.Plus ↦ h64.0 | c.Minus ↦ h65.0 | c.Star ↦ h66.0 | c.Slash ↦ h67.0 | c.Percent ↦ h68.0 | c.Ampersand ↦ h69.0 | c.Bar ↦ h70.0 | c.Caret ↦ h71.0 | c.Tilde ↦ h72.0 | c.Less ↦ h73.0 | c.Greater ↦ h74.0 | c.Assign ↦ h75.0 | c.OpenParenthesis ↦ h76.0 | c.CloseParenthesis ↦ h77.0 | c.OpenBracket ↦ h78.0 | c.CloseBracket ↦ h79.0 | c.OpenBrace ↦ h80.0 | c.CloseBrace ↦ h81.0 | c.Comma ↦ h82.0 | c.Colon ↦ h83.0 | c.Semicolon ↦ h84.0 | c.Dot ↦ h85.0 | c.QuestionMark ↦ h86.0 | c.Signed ↦ h87.0 | c.Unsigned ↦ h88.0 | c.Char ↦ h89.0 | c.Short ↦ h90.0 | c.IntWord ↦ h91.0 | c.Long ↦ h92.0 | c.PySsizeT ↦ h93.0 | c.SizeT ↦ h94.0 | c.Bint ↦ h95.0 | c.Void ↦ h96.0 | c.Name ↦ h97.0 | c.Int ↦ h98.0 | c.Str ↦ h99.0 | c.Newline ↦ h100.0 | c.Indent ↦ h101.0 | c.Dedent ↦ h102.0 | c.End ↦ h103.0 | c.Other ↦ h103.1 ]

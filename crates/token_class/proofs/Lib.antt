@@ -1,0 +1,3 @@
+pub mod EveryOne
+pub mod Samples
+pub mod Laws

@@ -1,0 +1,3 @@
+pub mod Classes
+pub mod Every
+pub mod Sets
