@@ -1,2 +1,3 @@
 pub mod Has
 pub mod Reads
+pub mod Below

@@ -1,6 +1,7 @@
 //! Expressions: the one tree of the longest run of tokens, or the first rule that is broken.
 #![tactic(auto)]
 
+mod grammar;
 mod input;
 mod set;
 mod types;

@@ -1,0 +1,568 @@
+//! The levels of expressions. Those that hold expressions take the reader of these as a parameter, so that each is
+//! proved by itself.
+ghost use Rattle.std.specs.Prelude.{◌≡◌, [], ◌∷◌, true, IfOk, if◌then◌else◌};
+ghost use Rattle.forms.specs.Readers.{read_both, read_one, read_many};
+ghost use Rattle.forms.specs.Lists.{second, itself};
+ghost use Rattle.token_class.specs.Sets.{of};
+ghost use Rattle.expr_grammar.specs.Words as set;
+ghost use Rattle.expr_grammar.specs.Grammar.{is_positive};
+ghost use Rattle.expr_grammar.specs.Nodes as node;
+ghost use Rattle.expr_grammar.specs.Reading as spec;
+ghost use Rattle.pyx_parse.specs.Below.{below, Nests};
+ghost use Rattle.pyx_parse.specs.Reads.{Reads};
+
+use crate::input::{Halt, Input};
+use crate::set::TokenSet;
+use cy_tree::{Expr, Operand, ShiftOp, ShiftOperand, SumOp, SumOperand, TermOp, TermOperand, UnaryOp};
+use expr_grammar::Level;
+use sqlite_items::{Boxed, Items};
+use std::alloc::{AllocError, Global};
+use token_class::{TokenClass, class_of};
+
+fn term_node(
+    alloc: Global,
+    at: u32,
+    first: Expr,
+    more: Items<TermOperand>,
+) -> Result<Expr, AllocError>
+    ensures { IfOk result (λ e. e ≡ node.term_node at (first, more)) }
+{
+    if more.is_empty() {
+        return Ok(first);
+    }
+    Ok(Expr::Term(at, Boxed::new(alloc, first)?, more))
+}
+
+fn sum_node(
+    alloc: Global,
+    at: u32,
+    first: Expr,
+    more: Items<SumOperand>,
+) -> Result<Expr, AllocError>
+    ensures { IfOk result (λ e. e ≡ node.sum_node at (first, more)) }
+{
+    if more.is_empty() {
+        return Ok(first);
+    }
+    Ok(Expr::Sum(at, Boxed::new(alloc, first)?, more))
+}
+
+fn shift_node(
+    alloc: Global,
+    at: u32,
+    first: Expr,
+    more: Items<ShiftOperand>,
+) -> Result<Expr, AllocError>
+    ensures { IfOk result (λ e. e ≡ node.shift_node at (first, more)) }
+{
+    if more.is_empty() {
+        return Ok(first);
+    }
+    Ok(Expr::Shift(at, Boxed::new(alloc, first)?, more))
+}
+
+fn bit_and_node(
+    alloc: Global,
+    at: u32,
+    first: Expr,
+    more: Items<Operand>,
+) -> Result<Expr, AllocError>
+    ensures { IfOk result (λ e. e ≡ node.bit_and_node at (first, more)) }
+{
+    if more.is_empty() {
+        return Ok(first);
+    }
+    Ok(Expr::BitAnd(at, Boxed::new(alloc, first)?, more))
+}
+
+fn bit_xor_node(
+    alloc: Global,
+    at: u32,
+    first: Expr,
+    more: Items<Operand>,
+) -> Result<Expr, AllocError>
+    ensures { IfOk result (λ e. e ≡ node.bit_xor_node at (first, more)) }
+{
+    if more.is_empty() {
+        return Ok(first);
+    }
+    Ok(Expr::BitXor(at, Boxed::new(alloc, first)?, more))
+}
+
+fn bit_or_node(
+    alloc: Global,
+    at: u32,
+    first: Expr,
+    more: Items<Operand>,
+) -> Result<Expr, AllocError>
+    ensures { IfOk result (λ e. e ≡ node.bit_or_node at (first, more)) }
+{
+    if more.is_empty() {
+        return Ok(first);
+    }
+    Ok(Expr::BitOr(at, Boxed::new(alloc, first)?, more))
+}
+
+fn conjunction_node(
+    alloc: Global,
+    at: u32,
+    first: Expr,
+    more: Items<Expr>,
+) -> Result<Expr, AllocError>
+    ensures { IfOk result (λ e. e ≡ node.and_node at (first, more)) }
+{
+    if more.is_empty() {
+        return Ok(first);
+    }
+    let mut all = Items::new(alloc);
+    all.push(first)?;
+    all.append(more)?;
+    Ok(Expr::And(at, all))
+}
+
+fn disjunction_node(
+    alloc: Global,
+    at: u32,
+    first: Expr,
+    more: Items<Expr>,
+) -> Result<Expr, AllocError>
+    ensures { IfOk result (λ e. e ≡ node.or_node at (first, more)) }
+{
+    if more.is_empty() {
+        return Ok(first);
+    }
+    let mut all = Items::new(alloc);
+    all.push(first)?;
+    all.append(more)?;
+    Ok(Expr::Or(at, all))
+}
+
+fn prefix_op(class: TokenClass) -> UnaryOp
+    ensures { result ≡ node.prefix_of class }
+{
+    match class {
+        TokenClass::Minus => UnaryOp::Negate,
+        TokenClass::Plus => UnaryOp::Plus,
+        _ => UnaryOp::Invert,
+    }
+}
+
+fn term_op(class: TokenClass) -> TermOp
+    ensures { result ≡ node.term_of class }
+{
+    match class {
+        TokenClass::Star => TermOp::Multiply,
+        TokenClass::Slash => TermOp::Divide,
+        TokenClass::FloorDivide => TermOp::FloorDivide,
+        _ => TermOp::Remainder,
+    }
+}
+
+fn sum_op(class: TokenClass) -> SumOp
+    ensures { result ≡ node.sum_of class }
+{
+    match class {
+        TokenClass::Plus => SumOp::Add,
+        _ => SumOp::Subtract,
+    }
+}
+
+fn shift_op(class: TokenClass) -> ShiftOp
+    ensures { result ≡ node.shift_of class }
+{
+    match class {
+        TokenClass::ShiftLeft => ShiftOp::Left,
+        _ => ShiftOp::Right,
+    }
+}
+
+// A token that would open something where nothing more may be opened.
+fn refused(opens: bool) -> Halt
+    ensures { result ≡ (if opens then Halt.Limit 2 else Halt.Unexpected) }
+{
+    if opens {
+        Halt::Limit(2)
+    } else {
+        Halt::Unexpected
+    }
+}
+
+#[derive(Clone, Copy)]
+pub struct Grammar<F> {
+    pub alloc: Global,
+    /// Whether something may be opened here.
+    pub here: bool,
+    /// How many things may be opened in there.
+    pub room: usize,
+    pub expr: F,
+}
+
+impl<F: Fn(Global, &mut Input<'_>, usize, Level) -> Result<Expr, Halt>> Grammar<F> {
+    fn nested(&self, input: &mut Input<'_>, l: Level) -> Result<Expr, Halt>
+        requires nests { Nests self.now.here self.now.room (F.pre self.now.expr) (F.post self.now.expr) }
+        requires here { self.now.here ≡ true }
+        ensures { Reads (below self.now.here self.now.room l input.old) result input.new }
+    {
+        (self.expr)(self.alloc, input, self.room, l)
+    }
+
+    #[tactic(auto, unfolding(forms::specs::Readers::read_both))]
+    fn term_operand(&self, input: &mut Input<'_>) -> Result<TermOperand, Halt>
+        requires { Nests self.now.here self.now.room (F.pre self.now.expr) (F.post self.now.expr) }
+        ensures { Reads (read_both node.term_operand (read_one (of set.is_term) itself) (spec.read_unary self.now.here (is_positive self.now.room) (below self.now.here self.now.room)) input.old) result input.new }
+    {
+        let token = input.expect(TokenSet::Term)?;
+        let (op, at) = (term_op(class_of(&token.kind)), token.span.start);
+        Ok((op, at, self.unary(input)?))
+    }
+
+    fn term_operands(&self, input: &mut Input<'_>) -> Result<Items<TermOperand>, Halt>
+        requires { Nests self.now.here self.now.room (F.pre self.now.expr) (F.post self.now.expr) }
+        ensures { Reads (read_many (of set.is_term) (read_both node.term_operand (read_one (of set.is_term) itself) (spec.read_unary self.now.here (is_positive self.now.room) (below self.now.here self.now.room))) input.old) result input.new }
+    {
+        let mut found = Items::new(self.alloc);
+        for _turn in 0..input.len() {
+            if !input.sees(TokenSet::Term) {
+                return Ok(found);
+            }
+            let operand = self.term_operand(input)?;
+            found.push(operand)?;
+        }
+        Ok(found)
+    }
+
+    #[tactic(auto, unfolding(expr_grammar::specs::Reading::read_term, forms::specs::Readers::read_both, forms::specs::Readers::read_placed))]
+    fn term(&self, input: &mut Input<'_>) -> Result<Expr, Halt>
+        requires { Nests self.now.here self.now.room (F.pre self.now.expr) (F.post self.now.expr) }
+        ensures { Reads (spec.read_term self.now.here (is_positive self.now.room) (below self.now.here self.now.room) input.old) result input.new }
+    {
+        let at = input.at()?;
+        let first = self.unary(input)?;
+        let more = self.term_operands(input)?;
+        Ok(term_node(self.alloc, at, first, more)?)
+    }
+
+    #[tactic(auto, unfolding(forms::specs::Readers::read_both))]
+    fn sum_operand(&self, input: &mut Input<'_>) -> Result<SumOperand, Halt>
+        requires { Nests self.now.here self.now.room (F.pre self.now.expr) (F.post self.now.expr) }
+        ensures { Reads (read_both node.sum_operand (read_one (of set.is_sum) itself) (spec.read_term self.now.here (is_positive self.now.room) (below self.now.here self.now.room)) input.old) result input.new }
+    {
+        let token = input.expect(TokenSet::Sum)?;
+        let (op, at) = (sum_op(class_of(&token.kind)), token.span.start);
+        Ok((op, at, self.term(input)?))
+    }
+
+    fn sum_operands(&self, input: &mut Input<'_>) -> Result<Items<SumOperand>, Halt>
+        requires { Nests self.now.here self.now.room (F.pre self.now.expr) (F.post self.now.expr) }
+        ensures { Reads (read_many (of set.is_sum) (read_both node.sum_operand (read_one (of set.is_sum) itself) (spec.read_term self.now.here (is_positive self.now.room) (below self.now.here self.now.room))) input.old) result input.new }
+    {
+        let mut found = Items::new(self.alloc);
+        for _turn in 0..input.len() {
+            if !input.sees(TokenSet::Sum) {
+                return Ok(found);
+            }
+            let operand = self.sum_operand(input)?;
+            found.push(operand)?;
+        }
+        Ok(found)
+    }
+
+    #[tactic(auto, unfolding(expr_grammar::specs::Reading::read_sum, forms::specs::Readers::read_both, forms::specs::Readers::read_placed))]
+    fn sum(&self, input: &mut Input<'_>) -> Result<Expr, Halt>
+        requires { Nests self.now.here self.now.room (F.pre self.now.expr) (F.post self.now.expr) }
+        ensures { Reads (spec.read_sum self.now.here (is_positive self.now.room) (below self.now.here self.now.room) input.old) result input.new }
+    {
+        let at = input.at()?;
+        let first = self.term(input)?;
+        let more = self.sum_operands(input)?;
+        Ok(sum_node(self.alloc, at, first, more)?)
+    }
+
+    #[tactic(auto, unfolding(forms::specs::Readers::read_both))]
+    fn shift_operand(&self, input: &mut Input<'_>) -> Result<ShiftOperand, Halt>
+        requires { Nests self.now.here self.now.room (F.pre self.now.expr) (F.post self.now.expr) }
+        ensures { Reads (read_both node.shift_operand (read_one (of set.is_shift) itself) (spec.read_sum self.now.here (is_positive self.now.room) (below self.now.here self.now.room)) input.old) result input.new }
+    {
+        let token = input.expect(TokenSet::Shift)?;
+        let (op, at) = (shift_op(class_of(&token.kind)), token.span.start);
+        Ok((op, at, self.sum(input)?))
+    }
+
+    fn shift_operands(&self, input: &mut Input<'_>) -> Result<Items<ShiftOperand>, Halt>
+        requires { Nests self.now.here self.now.room (F.pre self.now.expr) (F.post self.now.expr) }
+        ensures { Reads (read_many (of set.is_shift) (read_both node.shift_operand (read_one (of set.is_shift) itself) (spec.read_sum self.now.here (is_positive self.now.room) (below self.now.here self.now.room))) input.old) result input.new }
+    {
+        let mut found = Items::new(self.alloc);
+        for _turn in 0..input.len() {
+            if !input.sees(TokenSet::Shift) {
+                return Ok(found);
+            }
+            let operand = self.shift_operand(input)?;
+            found.push(operand)?;
+        }
+        Ok(found)
+    }
+
+    #[tactic(auto, unfolding(expr_grammar::specs::Reading::read_shift, forms::specs::Readers::read_both, forms::specs::Readers::read_placed))]
+    fn shift(&self, input: &mut Input<'_>) -> Result<Expr, Halt>
+        requires { Nests self.now.here self.now.room (F.pre self.now.expr) (F.post self.now.expr) }
+        ensures { Reads (spec.read_shift self.now.here (is_positive self.now.room) (below self.now.here self.now.room) input.old) result input.new }
+    {
+        let at = input.at()?;
+        let first = self.sum(input)?;
+        let more = self.shift_operands(input)?;
+        Ok(shift_node(self.alloc, at, first, more)?)
+    }
+
+    #[tactic(auto, unfolding(forms::specs::Readers::read_both))]
+    fn bit_and_operand(&self, input: &mut Input<'_>) -> Result<Operand, Halt>
+        requires { Nests self.now.here self.now.room (F.pre self.now.expr) (F.post self.now.expr) }
+        ensures { Reads (read_both node.operand (read_one (of set.is_ampersand) itself) (spec.read_shift self.now.here (is_positive self.now.room) (below self.now.here self.now.room)) input.old) result input.new }
+    {
+        let token = input.expect(TokenSet::Ampersand)?;
+        let at = token.span.start;
+        Ok((at, self.shift(input)?))
+    }
+
+    fn bit_and_operands(&self, input: &mut Input<'_>) -> Result<Items<Operand>, Halt>
+        requires { Nests self.now.here self.now.room (F.pre self.now.expr) (F.post self.now.expr) }
+        ensures { Reads (read_many (of set.is_ampersand) (read_both node.operand (read_one (of set.is_ampersand) itself) (spec.read_shift self.now.here (is_positive self.now.room) (below self.now.here self.now.room))) input.old) result input.new }
+    {
+        let mut found = Items::new(self.alloc);
+        for _turn in 0..input.len() {
+            if !input.sees(TokenSet::Ampersand) {
+                return Ok(found);
+            }
+            let operand = self.bit_and_operand(input)?;
+            found.push(operand)?;
+        }
+        Ok(found)
+    }
+
+    #[tactic(auto, unfolding(expr_grammar::specs::Reading::read_bit_and, forms::specs::Readers::read_both, forms::specs::Readers::read_placed))]
+    fn bit_and(&self, input: &mut Input<'_>) -> Result<Expr, Halt>
+        requires { Nests self.now.here self.now.room (F.pre self.now.expr) (F.post self.now.expr) }
+        ensures { Reads (spec.read_bit_and self.now.here (is_positive self.now.room) (below self.now.here self.now.room) input.old) result input.new }
+    {
+        let at = input.at()?;
+        let first = self.shift(input)?;
+        let more = self.bit_and_operands(input)?;
+        Ok(bit_and_node(self.alloc, at, first, more)?)
+    }
+
+    #[tactic(auto, unfolding(forms::specs::Readers::read_both))]
+    fn bit_xor_operand(&self, input: &mut Input<'_>) -> Result<Operand, Halt>
+        requires { Nests self.now.here self.now.room (F.pre self.now.expr) (F.post self.now.expr) }
+        ensures { Reads (read_both node.operand (read_one (of set.is_caret) itself) (spec.read_bit_and self.now.here (is_positive self.now.room) (below self.now.here self.now.room)) input.old) result input.new }
+    {
+        let token = input.expect(TokenSet::Caret)?;
+        let at = token.span.start;
+        Ok((at, self.bit_and(input)?))
+    }
+
+    fn bit_xor_operands(&self, input: &mut Input<'_>) -> Result<Items<Operand>, Halt>
+        requires { Nests self.now.here self.now.room (F.pre self.now.expr) (F.post self.now.expr) }
+        ensures { Reads (read_many (of set.is_caret) (read_both node.operand (read_one (of set.is_caret) itself) (spec.read_bit_and self.now.here (is_positive self.now.room) (below self.now.here self.now.room))) input.old) result input.new }
+    {
+        let mut found = Items::new(self.alloc);
+        for _turn in 0..input.len() {
+            if !input.sees(TokenSet::Caret) {
+                return Ok(found);
+            }
+            let operand = self.bit_xor_operand(input)?;
+            found.push(operand)?;
+        }
+        Ok(found)
+    }
+
+    #[tactic(auto, unfolding(expr_grammar::specs::Reading::read_bit_xor, forms::specs::Readers::read_both, forms::specs::Readers::read_placed))]
+    fn bit_xor(&self, input: &mut Input<'_>) -> Result<Expr, Halt>
+        requires { Nests self.now.here self.now.room (F.pre self.now.expr) (F.post self.now.expr) }
+        ensures { Reads (spec.read_bit_xor self.now.here (is_positive self.now.room) (below self.now.here self.now.room) input.old) result input.new }
+    {
+        let at = input.at()?;
+        let first = self.bit_and(input)?;
+        let more = self.bit_xor_operands(input)?;
+        Ok(bit_xor_node(self.alloc, at, first, more)?)
+    }
+
+    #[tactic(auto, unfolding(forms::specs::Readers::read_both))]
+    fn bit_or_operand(&self, input: &mut Input<'_>) -> Result<Operand, Halt>
+        requires { Nests self.now.here self.now.room (F.pre self.now.expr) (F.post self.now.expr) }
+        ensures { Reads (read_both node.operand (read_one (of set.is_bar) itself) (spec.read_bit_xor self.now.here (is_positive self.now.room) (below self.now.here self.now.room)) input.old) result input.new }
+    {
+        let token = input.expect(TokenSet::Bar)?;
+        let at = token.span.start;
+        Ok((at, self.bit_xor(input)?))
+    }
+
+    fn bit_or_operands(&self, input: &mut Input<'_>) -> Result<Items<Operand>, Halt>
+        requires { Nests self.now.here self.now.room (F.pre self.now.expr) (F.post self.now.expr) }
+        ensures { Reads (read_many (of set.is_bar) (read_both node.operand (read_one (of set.is_bar) itself) (spec.read_bit_xor self.now.here (is_positive self.now.room) (below self.now.here self.now.room))) input.old) result input.new }
+    {
+        let mut found = Items::new(self.alloc);
+        for _turn in 0..input.len() {
+            if !input.sees(TokenSet::Bar) {
+                return Ok(found);
+            }
+            let operand = self.bit_or_operand(input)?;
+            found.push(operand)?;
+        }
+        Ok(found)
+    }
+
+    #[tactic(auto, unfolding(expr_grammar::specs::Reading::read_bit_or, forms::specs::Readers::read_both, forms::specs::Readers::read_placed))]
+    fn bit_or(&self, input: &mut Input<'_>) -> Result<Expr, Halt>
+        requires { Nests self.now.here self.now.room (F.pre self.now.expr) (F.post self.now.expr) }
+        ensures { Reads (spec.read_bit_or self.now.here (is_positive self.now.room) (below self.now.here self.now.room) input.old) result input.new }
+    {
+        let at = input.at()?;
+        let first = self.bit_xor(input)?;
+        let more = self.bit_or_operands(input)?;
+        Ok(bit_or_node(self.alloc, at, first, more)?)
+    }
+
+    #[tactic(auto, unfolding(forms::specs::Readers::read_both))]
+    fn conjunction_operand(&self, input: &mut Input<'_>) -> Result<Expr, Halt>
+        requires { Nests self.now.here self.now.room (F.pre self.now.expr) (F.post self.now.expr) }
+        ensures { Reads (read_both second (read_one (of set.is_and) itself) (spec.read_negation self.now.here (is_positive self.now.room) (below self.now.here self.now.room)) input.old) result input.new }
+    {
+        input.expect(TokenSet::And)?;
+        self.negation(input)
+    }
+
+    fn conjunction_operands(&self, input: &mut Input<'_>) -> Result<Items<Expr>, Halt>
+        requires { Nests self.now.here self.now.room (F.pre self.now.expr) (F.post self.now.expr) }
+        ensures { Reads (read_many (of set.is_and) (read_both second (read_one (of set.is_and) itself) (spec.read_negation self.now.here (is_positive self.now.room) (below self.now.here self.now.room))) input.old) result input.new }
+    {
+        let mut found = Items::new(self.alloc);
+        for _turn in 0..input.len() {
+            if !input.sees(TokenSet::And) {
+                return Ok(found);
+            }
+            let operand = self.conjunction_operand(input)?;
+            found.push(operand)?;
+        }
+        Ok(found)
+    }
+
+    #[tactic(auto, unfolding(expr_grammar::specs::Reading::read_conjunction, forms::specs::Readers::read_both, forms::specs::Readers::read_placed))]
+    fn conjunction(&self, input: &mut Input<'_>) -> Result<Expr, Halt>
+        requires { Nests self.now.here self.now.room (F.pre self.now.expr) (F.post self.now.expr) }
+        ensures { Reads (spec.read_conjunction self.now.here (is_positive self.now.room) (below self.now.here self.now.room) input.old) result input.new }
+    {
+        let at = input.at()?;
+        let first = self.negation(input)?;
+        let more = self.conjunction_operands(input)?;
+        Ok(conjunction_node(self.alloc, at, first, more)?)
+    }
+
+    #[tactic(auto, unfolding(forms::specs::Readers::read_both))]
+    fn disjunction_operand(&self, input: &mut Input<'_>) -> Result<Expr, Halt>
+        requires { Nests self.now.here self.now.room (F.pre self.now.expr) (F.post self.now.expr) }
+        ensures { Reads (read_both second (read_one (of set.is_or) itself) (spec.read_conjunction self.now.here (is_positive self.now.room) (below self.now.here self.now.room)) input.old) result input.new }
+    {
+        input.expect(TokenSet::Or)?;
+        self.conjunction(input)
+    }
+
+    fn disjunction_operands(&self, input: &mut Input<'_>) -> Result<Items<Expr>, Halt>
+        requires { Nests self.now.here self.now.room (F.pre self.now.expr) (F.post self.now.expr) }
+        ensures { Reads (read_many (of set.is_or) (read_both second (read_one (of set.is_or) itself) (spec.read_conjunction self.now.here (is_positive self.now.room) (below self.now.here self.now.room))) input.old) result input.new }
+    {
+        let mut found = Items::new(self.alloc);
+        for _turn in 0..input.len() {
+            if !input.sees(TokenSet::Or) {
+                return Ok(found);
+            }
+            let operand = self.disjunction_operand(input)?;
+            found.push(operand)?;
+        }
+        Ok(found)
+    }
+
+    #[tactic(auto, unfolding(expr_grammar::specs::Reading::read_disjunction, forms::specs::Readers::read_both, forms::specs::Readers::read_placed))]
+    fn disjunction(&self, input: &mut Input<'_>) -> Result<Expr, Halt>
+        requires { Nests self.now.here self.now.room (F.pre self.now.expr) (F.post self.now.expr) }
+        ensures { Reads (spec.read_disjunction self.now.here (is_positive self.now.room) (below self.now.here self.now.room) input.old) result input.new }
+    {
+        let at = input.at()?;
+        let first = self.conjunction(input)?;
+        let more = self.disjunction_operands(input)?;
+        Ok(disjunction_node(self.alloc, at, first, more)?)
+    }
+
+    #[tactic(auto, unfolding(expr_grammar::specs::Reading::read_prefixed, forms::specs::Readers::read_both, forms::specs::Readers::read_guard, forms::specs::Readers::refuse))]
+    fn prefixed(&self, input: &mut Input<'_>) -> Result<Expr, Halt>
+        requires { Nests self.now.here self.now.room (F.pre self.now.expr) (F.post self.now.expr) }
+        ensures { Reads (spec.read_prefixed self.now.here (is_positive self.now.room) (below self.now.here self.now.room) input.old) result input.new }
+    {
+        if !self.here {
+            return Err(refused(input.sees(TokenSet::Prefix)));
+        }
+        let token = input.expect(TokenSet::Prefix)?;
+        let (op, at) = (prefix_op(class_of(&token.kind)), token.span.start);
+        let operand = self.nested(input, Level::Unary)?;
+        Ok(Expr::Unary(at, op, Boxed::new(self.alloc, operand)?))
+    }
+
+    #[tactic(auto, unfolding(expr_grammar::specs::Reading::read_unary, forms::specs::Readers::read_or))]
+    fn unary(&self, input: &mut Input<'_>) -> Result<Expr, Halt>
+        requires { Nests self.now.here self.now.room (F.pre self.now.expr) (F.post self.now.expr) }
+        ensures { Reads (spec.read_unary self.now.here (is_positive self.now.room) (below self.now.here self.now.room) input.old) result input.new }
+    {
+        if input.sees(TokenSet::Prefix) {
+            return self.prefixed(input);
+        }
+        if input.sees(TokenSet::Less) {
+            return self.cast(input);
+        }
+        self.postfix(input)
+    }
+
+    #[tactic(auto, unfolding(expr_grammar::specs::Reading::read_negated, forms::specs::Readers::read_both, forms::specs::Readers::read_guard, forms::specs::Readers::refuse))]
+    fn negated(&self, input: &mut Input<'_>) -> Result<Expr, Halt>
+        requires { Nests self.now.here self.now.room (F.pre self.now.expr) (F.post self.now.expr) }
+        ensures { Reads (spec.read_negated self.now.here (is_positive self.now.room) (below self.now.here self.now.room) input.old) result input.new }
+    {
+        if !self.here {
+            return Err(refused(input.sees(TokenSet::Not)));
+        }
+        let token = input.expect(TokenSet::Not)?;
+        let at = token.span.start;
+        let operand = self.nested(input, Level::Not)?;
+        Ok(Expr::Not(at, Boxed::new(self.alloc, operand)?))
+    }
+
+    #[tactic(auto, unfolding(expr_grammar::specs::Reading::read_negation, forms::specs::Readers::read_or))]
+    fn negation(&self, input: &mut Input<'_>) -> Result<Expr, Halt>
+        requires { Nests self.now.here self.now.room (F.pre self.now.expr) (F.post self.now.expr) }
+        ensures { Reads (spec.read_negation self.now.here (is_positive self.now.room) (below self.now.here self.now.room) input.old) result input.new }
+    {
+        if input.sees(TokenSet::Not) {
+            return self.negated(input);
+        }
+        self.compare(input)
+    }
+
+    fn cast(&self, input: &mut Input<'_>) -> Result<Expr, Halt>
+        requires { Nests self.now.here self.now.room (F.pre self.now.expr) (F.post self.now.expr) }
+        ensures { Reads (spec.read_cast self.now.here (is_positive self.now.room) (below self.now.here self.now.room) input.old) result input.new }
+    {
+        Err(Halt::Memory)
+    }
+
+    fn postfix(&self, input: &mut Input<'_>) -> Result<Expr, Halt>
+        requires { Nests self.now.here self.now.room (F.pre self.now.expr) (F.post self.now.expr) }
+        ensures { Reads (spec.read_postfix self.now.here (is_positive self.now.room) (below self.now.here self.now.room) input.old) result input.new }
+    {
+        Err(Halt::Memory)
+    }
+
+    fn compare(&self, input: &mut Input<'_>) -> Result<Expr, Halt>
+        requires { Nests self.now.here self.now.room (F.pre self.now.expr) (F.post self.now.expr) }
+        ensures { Reads (spec.read_compare self.now.here (is_positive self.now.room) (below self.now.here self.now.room) input.old) result input.new }
+    {
+        Err(Halt::Memory)
+    }
+}
