@@ -1,19 +1,21 @@
 //! The levels of expressions. Those that hold expressions take the reader of these as a parameter, so that each is
 //! proved by itself.
 ghost use Rattle.std.specs.Prelude.{◌≡◌, [], ◌∷◌, true, IfOk, if◌then◌else◌};
-ghost use Rattle.forms.specs.Readers.{read_both, read_one, read_many};
-ghost use Rattle.forms.specs.Lists.{second, itself};
+ghost use Rattle.forms.specs.Readers.{read_both, read_one, read_many, read_guard, read_nothing, read_or};
+ghost use Rattle.forms.specs.Lists.{first, second, pair, itself};
 ghost use Rattle.token_class.specs.Sets.{of};
 ghost use Rattle.expr_grammar.specs.Words as set;
-ghost use Rattle.expr_grammar.specs.Grammar.{is_positive};
+ghost use Rattle.expr_grammar.specs.Grammar.{is_positive, two};
 ghost use Rattle.expr_grammar.specs.Nodes as node;
 ghost use Rattle.expr_grammar.specs.Reading as spec;
 ghost use Rattle.pyx_parse.specs.Below.{below, Nests};
 ghost use Rattle.pyx_parse.specs.Reads.{Reads};
 
 use crate::input::{Halt, Input};
+use crate::operators::comparison;
 use crate::set::TokenSet;
-use cy_tree::{Expr, Operand, ShiftOp, ShiftOperand, SumOp, SumOperand, TermOp, TermOperand, UnaryOp};
+use crate::types::{dims, type_name};
+use cy_tree::{Comparison, Dim, Expr, Operand, ShiftOp, ShiftOperand, SumOp, SumOperand, TermOp, TermOperand, TypeName, TypeNode, UnaryOp};
 use expr_grammar::Level;
 use sqlite_items::{Boxed, Items};
 use std::alloc::{AllocError, Global};
@@ -174,6 +176,20 @@ fn shift_op(class: TokenClass) -> ShiftOp
         TokenClass::ShiftLeft => ShiftOp::Left,
         _ => ShiftOp::Right,
     }
+}
+
+fn conditional(
+    alloc: Global,
+    at: u32,
+    value: Expr,
+    test: Expr,
+    other: Expr,
+) -> Result<Expr, AllocError>
+    ensures { IfOk result (λ e. e ≡ Expr.Conditional at value test other) }
+{
+    let value = Boxed::new(alloc, value)?;
+    let test = Boxed::new(alloc, test)?;
+    Ok(Expr::Conditional(at, value, test, Boxed::new(alloc, other)?))
 }
 
 // A token that would open something where nothing more may be opened.
@@ -545,23 +561,149 @@ impl<F: Fn(Global, &mut Input<'_>, usize, Level) -> Result<Expr, Halt>> Grammar<
         self.compare(input)
     }
 
+    #[tactic(auto, unfolding(forms::specs::Readers::read_both))]
+    fn compared(&self, input: &mut Input<'_>) -> Result<((Comparison, u32), Expr), Halt>
+        requires { Nests self.now.here self.now.room (F.pre self.now.expr) (F.post self.now.expr) }
+        ensures { Reads (read_both pair spec.read_cop (spec.read_bit_or self.now.here (is_positive self.now.room) (below self.now.here self.now.room)) input.old) result input.new }
+    {
+        let op = comparison(input)?;
+        let right = self.bit_or(input)?;
+        Ok((op, right))
+    }
+
+    #[tactic(auto, unfolding(expr_grammar::specs::Reading::read_compare, forms::specs::Readers::read_both, forms::specs::Readers::read_or, forms::specs::Readers::read_nothing, forms::specs::Readers::read_placed))]
+    fn compare(&self, input: &mut Input<'_>) -> Result<Expr, Halt>
+        requires { Nests self.now.here self.now.room (F.pre self.now.expr) (F.post self.now.expr) }
+        ensures { Reads (spec.read_compare self.now.here (is_positive self.now.room) (below self.now.here self.now.room) input.old) result input.new }
+    {
+        let at = input.at()?;
+        let left = self.bit_or(input)?;
+        if !input.sees(TokenSet::BeginsCop) {
+            return Ok(left);
+        }
+        let ((op, place), right) = self.compared(input)?;
+        let left = Boxed::new(self.alloc, left)?;
+        Ok(Expr::Compare(at, left, op, place, Boxed::new(self.alloc, right)?))
+    }
+
+    #[tactic(auto, unfolding(expr_grammar::specs::Reading::read_otherwise, forms::specs::Readers::read_both, forms::specs::Readers::read_guard, forms::specs::Readers::refuse))]
+    fn otherwise(&self, input: &mut Input<'_>) -> Result<Expr, Halt>
+        requires { Nests self.now.here self.now.room (F.pre self.now.expr) (F.post self.now.expr) }
+        ensures { Reads (spec.read_otherwise self.now.here (is_positive self.now.room) (below self.now.here self.now.room) input.old) result input.new }
+    {
+        if !self.here {
+            return Err(refused(input.sees(TokenSet::Else)));
+        }
+        input.expect(TokenSet::Else)?;
+        self.nested(input, Level::Expr)
+    }
+
+    #[tactic(auto, unfolding(forms::specs::Readers::read_both))]
+    fn tested(&self, input: &mut Input<'_>) -> Result<(Expr, Expr), Halt>
+        requires { Nests self.now.here self.now.room (F.pre self.now.expr) (F.post self.now.expr) }
+        ensures { Reads (read_both pair (spec.read_disjunction self.now.here (is_positive self.now.room) (below self.now.here self.now.room)) (spec.read_otherwise self.now.here (is_positive self.now.room) (below self.now.here self.now.room)) input.old) result input.new }
+    {
+        let test = self.disjunction(input)?;
+        let other = self.otherwise(input)?;
+        Ok((test, other))
+    }
+
+    #[tactic(auto, unfolding(expr_grammar::specs::Reading::read_condition, forms::specs::Readers::read_both))]
+    fn condition(&self, input: &mut Input<'_>) -> Result<(Expr, Expr), Halt>
+        requires { Nests self.now.here self.now.room (F.pre self.now.expr) (F.post self.now.expr) }
+        ensures { Reads (spec.read_condition self.now.here (is_positive self.now.room) (below self.now.here self.now.room) input.old) result input.new }
+    {
+        input.expect(TokenSet::If)?;
+        self.tested(input)
+    }
+
+    #[tactic(auto, unfolding(expr_grammar::specs::Reading::read_expr, forms::specs::Readers::read_both, forms::specs::Readers::read_or, forms::specs::Readers::read_nothing, forms::specs::Readers::read_placed))]
+    fn whole(&self, input: &mut Input<'_>) -> Result<Expr, Halt>
+        requires { Nests self.now.here self.now.room (F.pre self.now.expr) (F.post self.now.expr) }
+        ensures { Reads (spec.read_expr self.now.here (is_positive self.now.room) (below self.now.here self.now.room) input.old) result input.new }
+    {
+        let at = input.at()?;
+        let value = self.disjunction(input)?;
+        if !input.sees(TokenSet::If) {
+            return Ok(value);
+        }
+        let (test, other) = self.condition(input)?;
+        Ok(conditional(self.alloc, at, value, test, other)?)
+    }
+
+    #[tactic(auto, unfolding(forms::specs::Readers::read_both, forms::specs::Readers::read_guard, forms::specs::Readers::refuse))]
+    fn view(&self, input: &mut Input<'_>) -> Result<Items<Dim>, Halt>
+        requires { Nests self.now.here self.now.room (F.pre self.now.expr) (F.post self.now.expr) }
+        ensures { Reads (read_guard (is_positive self.now.room) (of set.is_open_bracket) two (read_both second (read_one (of set.is_open_bracket) itself) (read_both first spec.read_dims (read_one (of set.is_close_bracket) itself))) input.old) result input.new }
+    {
+        if self.room == 0 {
+            return Err(refused(input.sees(TokenSet::OpenBracket)));
+        }
+        input.expect(TokenSet::OpenBracket)?;
+        let dims = dims(self.alloc, input)?;
+        input.expect(TokenSet::CloseBracket)?;
+        Ok(dims)
+    }
+
+    #[tactic(auto, unfolding(forms::specs::Readers::read_both, forms::specs::Readers::read_or, forms::specs::Readers::read_nothing))]
+    fn type_body(&self, input: &mut Input<'_>) -> Result<(TypeName, Items<Dim>), Halt>
+        requires { Nests self.now.here self.now.room (F.pre self.now.expr) (F.post self.now.expr) }
+        ensures { Reads (read_both pair spec.read_type_name (read_or (of set.is_open_bracket) (read_guard (is_positive self.now.room) (of set.is_open_bracket) two (read_both second (read_one (of set.is_open_bracket) itself) (read_both first spec.read_dims (read_one (of set.is_close_bracket) itself)))) (read_nothing [])) input.old) result input.new }
+    {
+        let name = type_name(self.alloc, input)?;
+        if !input.sees(TokenSet::OpenBracket) {
+            return Ok((name, Items::new(self.alloc)));
+        }
+        let dims = self.view(input)?;
+        Ok((name, dims))
+    }
+
+    #[tactic(auto, unfolding(expr_grammar::specs::Reading::read_type, forms::specs::Readers::read_both, forms::specs::Readers::read_placed))]
+    fn type_node(&self, input: &mut Input<'_>) -> Result<TypeNode, Halt>
+        requires { Nests self.now.here self.now.room (F.pre self.now.expr) (F.post self.now.expr) }
+        ensures { Reads (spec.read_type self.now.here (is_positive self.now.room) (below self.now.here self.now.room) input.old) result input.new }
+    {
+        let at = input.at()?;
+        let constant = input.flag(TokenSet::Const);
+        let (name, dims) = self.type_body(input)?;
+        Ok(TypeNode {
+            at,
+            constant,
+            name,
+            dims,
+        })
+    }
+
+    #[tactic(auto, unfolding(expr_grammar::specs::Reading::read_behind_type, forms::specs::Readers::read_both))]
+    fn behind_type(&self, input: &mut Input<'_>) -> Result<(bool, Expr), Halt>
+        requires nests { Nests self.now.here self.now.room (F.pre self.now.expr) (F.post self.now.expr) }
+        requires here { self.now.here ≡ true }
+        ensures { Reads (spec.read_behind_type self.now.here (is_positive self.now.room) (below self.now.here self.now.room) input.old) result input.new }
+    {
+        let checked = input.flag(TokenSet::QuestionMark);
+        input.expect(TokenSet::Greater)?;
+        let operand = self.nested(input, Level::Unary)?;
+        Ok((checked, operand))
+    }
+
+    #[tactic(auto, unfolding(expr_grammar::specs::Reading::read_cast, forms::specs::Readers::read_both, forms::specs::Readers::read_guard, forms::specs::Readers::refuse))]
     fn cast(&self, input: &mut Input<'_>) -> Result<Expr, Halt>
         requires { Nests self.now.here self.now.room (F.pre self.now.expr) (F.post self.now.expr) }
         ensures { Reads (spec.read_cast self.now.here (is_positive self.now.room) (below self.now.here self.now.room) input.old) result input.new }
     {
-        Err(Halt::Memory)
+        if !self.here {
+            return Err(refused(input.sees(TokenSet::Less)));
+        }
+        let token = input.expect(TokenSet::Less)?;
+        let at = token.span.start;
+        let to = self.type_node(input)?;
+        let (checked, operand) = self.behind_type(input)?;
+        Ok(Expr::Cast(at, to, checked, Boxed::new(self.alloc, operand)?))
     }
 
     fn postfix(&self, input: &mut Input<'_>) -> Result<Expr, Halt>
         requires { Nests self.now.here self.now.room (F.pre self.now.expr) (F.post self.now.expr) }
         ensures { Reads (spec.read_postfix self.now.here (is_positive self.now.room) (below self.now.here self.now.room) input.old) result input.new }
-    {
-        Err(Halt::Memory)
-    }
-
-    fn compare(&self, input: &mut Input<'_>) -> Result<Expr, Halt>
-        requires { Nests self.now.here self.now.room (F.pre self.now.expr) (F.post self.now.expr) }
-        ensures { Reads (spec.read_compare self.now.here (is_positive self.now.room) (below self.now.here self.now.room) input.old) result input.new }
     {
         Err(Halt::Memory)
     }

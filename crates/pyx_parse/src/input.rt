@@ -5,13 +5,13 @@ ghost use Rattle.forms.specs.Lists.{itself};
 ghost use Rattle.token_class.specs.Sets.{of};
 ghost use Rattle.pyx_parse.specs.Has.{has};
 ghost use Rattle.pyx_parse.specs.Reads.{Takes, Places, Reads};
-ghost use Rattle.expr_grammar.specs.Words.{is_int, is_lone, is_str};
+ghost use Rattle.expr_grammar.specs.Words.{is_in, is_int, is_lone, is_order, is_str};
 ghost use Rattle.expr_grammar.specs.Nodes as node;
 ghost use Rattle.expr_grammar.specs.Reading.{read_flag};
 
 use crate::set::{TokenSet, has};
 use cy_base::{OutOfMemory, Text};
-use cy_tree::{Ident, NumberWords};
+use cy_tree::{Comparison, Ident, NumberWords};
 use pyx_lex::{Token, TokenKind};
 use std::alloc::{AllocError, Global};
 use std::marker::Model;
@@ -181,6 +181,30 @@ impl<'a> Input<'a> {
         let token = self.take();
         Ok(lone_of(class_of(&token.kind)))
     }
+
+    /// Takes the next token, which is to be one of `<`, `<=`, `==`, `!=`, `>` and `>=`.
+    #[tactic(auto, unfolding(forms::specs::Readers::read_one))]
+    pub fn order(&mut self) -> Result<(Comparison, u32), Halt>
+        ensures { Reads (read_one (of is_order) node.order self.old) result self.new }
+    {
+        if !self.sees(TokenSet::Order) {
+            return Err(Halt::Unexpected);
+        }
+        let token = self.take();
+        Ok((order_of(class_of(&token.kind)), token.span.start))
+    }
+
+    /// Takes the next token, which is to be `in`.
+    #[tactic(auto, unfolding(forms::specs::Readers::read_one))]
+    pub fn within(&mut self) -> Result<(Comparison, u32), Halt>
+        ensures { Reads (read_one (of is_in) node.in_node self.old) result self.new }
+    {
+        if !self.sees(TokenSet::In) {
+            return Err(Halt::Unexpected);
+        }
+        let token = self.take();
+        Ok((Comparison::In, token.span.start))
+    }
 }
 
 fn text_of(alloc: Global, kind: &TokenKind) -> Result<Text, OutOfMemory>
@@ -209,5 +233,18 @@ fn lone_of(class: TokenClass) -> NumberWords
         TokenClass::SizeT => NumberWords::SizeT,
         TokenClass::Bint => NumberWords::Bint,
         _ => NumberWords::Void,
+    }
+}
+
+fn order_of(class: TokenClass) -> Comparison
+    ensures { result ≡ node.order_of class }
+{
+    match class {
+        TokenClass::Less => Comparison::Less,
+        TokenClass::LessEqual => Comparison::LessEqual,
+        TokenClass::Equal => Comparison::Equal,
+        TokenClass::NotEqual => Comparison::NotEqual,
+        TokenClass::Greater => Comparison::Greater,
+        _ => Comparison::GreaterEqual,
     }
 }

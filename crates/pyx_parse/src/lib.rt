@@ -3,6 +3,7 @@
 
 mod grammar;
 mod input;
+mod operators;
 mod set;
 mod types;
 
