@@ -658,14 +658,23 @@ impl<F: Fn(Global, &mut Input<'_>, usize, Level) -> Result<Expr, Halt>> Grammar<
         Ok((name, dims))
     }
 
-    #[tactic(auto, unfolding(expr_grammar::specs::Reading::read_type, forms::specs::Readers::read_both, forms::specs::Readers::read_placed))]
+    #[tactic(auto, unfolding(forms::specs::Readers::read_both))]
+    fn type_parts(&self, input: &mut Input<'_>) -> Result<(bool, TypeName, Items<Dim>), Halt>
+        requires { Nests self.now.here self.now.room (F.pre self.now.expr) (F.post self.now.expr) }
+        ensures { Reads (read_both node.triple (spec.read_flag set.is_const) (read_both pair spec.read_type_name (read_or (of set.is_open_bracket) (read_guard (is_positive self.now.room) (of set.is_open_bracket) two (read_both second (read_one (of set.is_open_bracket) itself) (read_both first spec.read_dims (read_one (of set.is_close_bracket) itself)))) (read_nothing []))) input.old) result input.new }
+    {
+        let constant = input.flag(TokenSet::Const);
+        let (name, dims) = self.type_body(input)?;
+        Ok((constant, name, dims))
+    }
+
+    #[tactic(auto, unfolding(expr_grammar::specs::Reading::read_type, forms::specs::Readers::read_placed))]
     fn type_node(&self, input: &mut Input<'_>) -> Result<TypeNode, Halt>
         requires { Nests self.now.here self.now.room (F.pre self.now.expr) (F.post self.now.expr) }
         ensures { Reads (spec.read_type self.now.here (is_positive self.now.room) (below self.now.here self.now.room) input.old) result input.new }
     {
         let at = input.at()?;
-        let constant = input.flag(TokenSet::Const);
-        let (name, dims) = self.type_body(input)?;
+        let (constant, name, dims) = self.type_parts(input)?;
         Ok(TypeNode {
             at,
             constant,
