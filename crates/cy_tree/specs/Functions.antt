@@ -1,6 +1,8 @@
 -- The functions and classes of a file in text order, by which they are numbered. The project's own.
-use Rattle.std.specs.Prelude.{List, [], ◌∷◌}
+use Rattle.std.specs.Prelude.{ℕ, suc, List, [], ◌∷◌, Option, Some, None}
 use Rattle.std.specs.List.{flat_map}
+use Rattle.cy_tree.specs.declared.content.Content.{Content}
+use Rattle.cy_tree.specs.declared.content.Content.TheVariants as content
 use Rattle.cy_tree.specs.declared.decl.CFunction.{CFunction}
 use Rattle.cy_tree.specs.declared.decl.Class.{Class}
 use Rattle.cy_tree.specs.declared.decl.Def.{Def}
@@ -36,3 +38,18 @@ classes_of _ = []
 -- the classes of a `.pyx` file
 abbrev pub classes : List Top → List Class
 classes tops = flat_map classes_of tops
+
+-- the items of a `.pyx` file, of which a `.pxd` has none
+abbrev pub tops_of : Content → List Top
+tops_of (content.Implementation tops) = tops
+tops_of (content.Definition items) = []
+
+abbrev pub as_class : Option Top → Option Class
+as_class (Some (top.Class c)) = Some c
+as_class _ = None
+
+-- where the classes stand among items, of which the first has the number i
+abbrev pub class_places : ℕ → List Top → List ℕ
+class_places i [] = []
+class_places i (top.Class c ∷ tops) = i ∷ class_places (suc i) tops
+class_places i (t ∷ tops) = class_places (suc i) tops

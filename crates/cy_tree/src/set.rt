@@ -64,7 +64,9 @@ pub struct NamedSet {
 }
 
 /// What is known of a node: what its name means, where it is a name; its static type, where it is an expression,
-/// else `Void`; its coercion, where its value meets a declared place; whether it is a place without the lock.
+/// else `Void`; its coercion, where its value meets a declared place; whether it is a place without the lock, which
+/// is false until the rules on the lock are judged. `how` is None for a literal that becomes a constant and where a
+/// value meets a target: each target has its own coercion.
 #[derive(Clone, Copy, Debug, PartialEq, Eq)]
 pub struct NodeInfo {
     pub name: Option<NameKind>,
