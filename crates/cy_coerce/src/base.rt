@@ -68,7 +68,7 @@ pub fn is_base(set: &NamedSet, base: ClassId, class: ClassId) -> bool
     ensures { result ≡ is_base set.now base class }
 {
     let mut found = base_of(set, class);
-    for _step in 0..31 {
+    for _step in 0..31usize {
         match found {
             None => return false,
             Some(above) => {

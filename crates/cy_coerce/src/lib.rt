@@ -6,9 +6,10 @@ mod same;
 #[cfg(test)]
 mod tests;
 
-ghost use Rattle.std.specs.Prelude.{◌≡◌};
+ghost use Rattle.std.specs.Prelude.{◌≡◌, Some, None, if◌then◌else◌};
 ghost use Rattle.cy_tree.specs.declared.set.NamedSet.{NamedSet};
-ghost use Rattle.cy_tree.specs.Coercions.{coercion_of, is_wider};
+ghost use Rattle.cy_tree.specs.Bases.{class_eq, is_base};
+ghost use Rattle.cy_tree.specs.Coercions.{coercion_of, is_wider, view_eq};
 
 use crate::base::is_base;
 use crate::same::{is_signed, same_class, same_elements, same_number, same_view};
@@ -52,7 +53,9 @@ fn to_object(from: Ty) -> Option<Coercion>
 
 // The class above, then the class below.
 fn class_to_class(set: &NamedSet, from: ClassId, to: ClassId) -> Option<Coercion>
-    ensures { result ≡ coercion_of set.now (Ty.Class from) (Ty.Class to) }
+    ensures { result ≡ if class_eq from to then Some Coercion.Same else
+        if is_base set.now to from then Some Coercion.Same else
+        if is_base set.now from to then Some (Coercion.ClassTest to) else None }
 {
     if same_class(from, to) || is_base(set, to, from) {
         return Some(Coercion::Same);
@@ -68,7 +71,7 @@ fn to_class(set: &NamedSet, from: Ty, to: ClassId) -> Option<Coercion>
 {
     match from {
         Ty::Object => Some(Coercion::ClassTest(to)),
-        Ty::Class(from) => class_to_class(set, from, to),
+        Ty::Class(below) => class_to_class(set, below, to),
         Ty::Num(_) | Ty::Bint | Ty::View(_) | Ty::Void => None,
     }
 }
@@ -83,7 +86,7 @@ fn is_wider(from: ViewTy, to: ViewTy) -> bool
 }
 
 fn view_to_view(from: ViewTy, to: ViewTy) -> Option<Coercion>
-    ensures { (set : NamedSet) → result ≡ coercion_of set (Ty.View from) (Ty.View to) }
+    ensures { result ≡ if view_eq from to then Some Coercion.Same else if is_wider from to then Some Coercion.Widen else None }
 {
     if same_view(from, to) {
         return Some(Coercion::Same);
@@ -99,7 +102,7 @@ fn to_view(from: Ty, to: ViewTy) -> Option<Coercion>
 {
     match from {
         Ty::Object => Some(Coercion::TakeView(to)),
-        Ty::View(from) => view_to_view(from, to),
+        Ty::View(view) => view_to_view(view, to),
         Ty::Num(_) | Ty::Bint | Ty::Class(_) | Ty::Void => None,
     }
 }
@@ -111,11 +114,11 @@ pub fn coercion(set: &NamedSet, from: Ty, to: Ty) -> Option<Coercion>
     ensures { result ≡ coercion_of set.now from to }
 {
     match to {
-        Ty::Num(to) => to_number(from, to),
+        Ty::Num(kind) => to_number(from, kind),
         Ty::Bint => to_bint(from),
         Ty::Object => to_object(from),
-        Ty::Class(to) => to_class(set, from, to),
-        Ty::View(to) => to_view(from, to),
+        Ty::Class(class) => to_class(set, from, class),
+        Ty::View(view) => to_view(from, view),
         Ty::Void => None,
     }
 }
