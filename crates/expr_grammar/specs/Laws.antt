@@ -1,6 +1,8 @@
 -- The laws of the grammar of expressions, and its public answer.
-use Rattle.std.specs.Prelude.{ℕ, List}
+use Rattle.std.specs.Prelude.{◌≡◌, ℕ, List}
 use Rattle.pyx_lex.specs.declared.token.Token.{Token}
+use Rattle.cy_tree.specs.declared.expr.Expr.{Expr}
+use Rattle.forms.specs.Readers.{Outcome}
 use Rattle.forms.specs.Exact.{Answers, SpellsOne}
 use Rattle.expr_grammar.specs.declared.Level.{Level}
 use Rattle.expr_grammar.specs.Grammar.{Spells}
@@ -13,3 +15,7 @@ ExpressionsAreRead = (room : ℕ) (l : Level) (ts : List Token) → Answers (Spe
 -- No tokens spell two trees within the limits.
 abbrev pub ExpressionsSpellOne : Type 0
 ExpressionsSpellOne = (room : ℕ) (l : Level) → SpellsOne (Spells room l)
+
+-- What is said of the answer leaves no second one.
+abbrev pub ExpressionsHaveOneAnswer : Type 0
+ExpressionsHaveOneAnswer = (room : ℕ) (l : Level) (ts : List Token) (o w : Outcome Token Expr) → Answers (Spells room l) ts o → Answers (Spells room l) ts w → o ≡ w

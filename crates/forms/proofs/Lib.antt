@@ -11,3 +11,5 @@ pub mod TrailLaws
 pub mod Answering
 pub mod Packs
 pub mod Loops
+pub mod RowLoops
+pub mod OneAnswer
