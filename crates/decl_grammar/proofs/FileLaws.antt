@@ -3,7 +3,7 @@ use Rattle.std.proofs.Common.{◌≡◌, ℕ, suc, true, false, ◌||◌, ◌⊎
 use Rattle.pyx_lex.specs.declared.token.Token.{Token}
 use Rattle.token_class.specs.declared.class.TokenClass.TheVariants as c
 use Rattle.token_class.specs.Sets.{Classes, of}
-use Rattle.token_class.proofs.Laws.{ExactFor, optional, token, seq, loop, sets, after, after_maybe, either_of}
+use Rattle.token_class.proofs.Laws.{ExactFor, optional, token, seq, place, loop, sets, after, after_maybe, either_of}
 use Rattle.cy_tree.specs.declared.content.Content.{Content}
 use Rattle.cy_tree.specs.declared.decl.Cimport.{Cimport}
 use Rattle.cy_tree.specs.declared.decl.ClassBase.{ClassBase}
@@ -21,7 +21,7 @@ use Rattle.forms.specs.Readers.{Reader, sees, read_one, read_both}
 use Rattle.forms.specs.Lists.{Row, first, second, pair, itself}
 use Rattle.forms.proofs.Facts.{cases, or_false}
 use Rattle.expr_grammar.specs.Words.{is_name, is_str, is_comma, is_colon, is_open_parenthesis, is_close_parenthesis, begins_type}
-use Rattle.expr_grammar.specs.Nodes.{ident, cons}
+use Rattle.expr_grammar.specs.Nodes.{text, ident, cons}
 use Rattle.expr_grammar.specs.Grammar.{pair_of_three}
 use Rattle.expr_grammar.proofs.FlatLaws.{member_exact}
 use Rattle.decl_grammar.specs.Words.{is_pass, is_import, is_from, is_cimport, is_cdef, is_cpdef, is_class, is_c_word, is_assign, is_newline, is_indent, is_dedent, is_end}
@@ -81,7 +81,7 @@ module _ (m : ℕ) where
       let tails = either_of (mapped_exact (flipped open_fields) (open_exact m)) (mapped_exact (flipped declared_by) member_tail_exact) refl in
       let by_cdef = after apply (token is_cdef itself c.Cdef refl) tails refl in
       let functions = either_of (mapped_exact def_member (def_exact m)) (either_of by_cdef (cpdef_exact m cpdef_method) refl) refl in
-      sets begins_member none refl refl (either_of (after first (token is_pass pass_member c.Pass refl) newline refl) (either_of (after docstring_node (token is_str itself c.Str refl) newline refl) functions refl) refl)
+      sets begins_member none refl refl (either_of (after first (token is_pass pass_member c.Pass refl) newline refl) (either_of (place docstring_node (after first (token is_str text c.Str refl) newline refl)) functions refl) refl)
 
   pub same_member : Same Member (member_factored m) (class_member m)
   unfolding member_factored class_member open_member cdef_member member_tail

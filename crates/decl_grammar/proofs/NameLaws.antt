@@ -19,7 +19,7 @@ use Rattle.expr_grammar.specs.Grammar.{two, is_positive, member, number_words, t
 use Rattle.expr_grammar.proofs.FlatLaws.{number_exact, member_exact, dims_exact}
 use Rattle.expr_grammar.proofs.LevelLaws.{type_exact, some_deep}
 use Rattle.decl_grammar.specs.Nodes.{Typed}
-use Rattle.decl_grammar.specs.Grammar.{apply, type_at, typed_name}
+use Rattle.decl_grammar.specs.Grammar.{apply, type_at, declared_name, typed_name}
 use Rattle.decl_grammar.specs.Factored.{Same, typed, untyped, brackets, behind_name, definite, name_factored}
 use Rattle.decl_grammar.specs.Reading.{read_type_at, read_brackets, goes_on, read_behind_name, is_definite, read_definite, read_typed_name}
 use Rattle.decl_grammar.proofs.Unless.{but_not}
@@ -38,11 +38,11 @@ brackets_exact n =
     (λ h. after second (token is_open_bracket itself c.OpenBracket refl) (sets is_colon none refl refl (seq first dims_exact close refl)) refl) in
     sets is_open_bracket is_open_bracket refl refl (maybe [] room)
 
-behind_name_exact : (n : ℕ) → ExactFor (Token → Typed) (behind_name n) (read_behind_name n) true goes_on goes_on
+behind_name_exact : (n : ℕ) → ExactFor (Ident → Typed) (behind_name n) (read_behind_name n) true goes_on goes_on
 unfolding behind_name read_behind_name
 behind_name_exact n =
     let what = seq pair (optional member_exact) (brackets_exact n) refl in
-    let whole = seq typed what (token is_plain_name itself c.Name refl) refl in
+    let whole = seq typed what (token is_plain_name ident c.Name refl) refl in
     maybe untyped (sets goes_on none refl refl whole)
 
 definite_exact : (n : ℕ) → ExactFor Typed (definite n) (read_definite n) false is_definite none
@@ -53,7 +53,7 @@ definite_exact n =
 
 factored_exact : (n : ℕ) → ExactFor Typed (name_factored n) (read_typed_name n) false begins_type goes_on
 unfolding name_factored read_typed_name
-factored_exact n = sets begins_type goes_on refl refl (either_of (definite_exact n) (after_maybe apply (token is_plain_name itself c.Name refl) (behind_name_exact n) refl) refl)
+factored_exact n = sets begins_type goes_on refl refl (either_of (definite_exact n) (after_maybe apply (token is_plain_name ident c.Name refl) (behind_name_exact n) refl) refl)
 
 -- ---- the factored form spells the same
 
@@ -130,7 +130,7 @@ module _ (n : ℕ) where
   there ts v (this s) = record { a = s.a; b = s.b; front = s.front; back = s.back; cut = s.cut; left = this (record { a = s.left.a; b = s.left.b; front = s.left.front; back = s.left.back; cut = s.left.cut; left = s.left.left.inside; right = s.left.right; made = s.left.made }); right = s.right; made = s.made }
   there ts v (that s) = go s.right
     where
-      go : or (both typed (both pair (opt member) (brackets n)) (one (of is_plain_name) itself)) (nothing untyped) s.back s.b → typed_name n ts v
+      go : or (both typed (both pair (opt member) (brackets n)) declared_name) (nothing untyped) s.back s.b → typed_name n ts v
       go (this z) =
           let x = s.left.token in
           let q = z.left in
@@ -139,7 +139,7 @@ module _ (n : ℕ) where
           let whole : type_at n us kind = kind_of us kind (x, s.left.fits, q.a, q.b, q.front, q.back, refl, q.left, q.right, refl) in
           let cut : ts ≡ us ++ z.back = s.cut ∙ ap (λ w. w ++ s.back) s.left.is ∙ ap (λ w. (x, None) ∷ w) (z.cut ∙ ap (λ w. w ++ z.back) q.cut) in
           let value : v ≡ (Some kind, ident z.right.token) =
-          s.made ∙ ap (λ w. w s.a) z.made ∙ ap (typed z.a z.b) s.left.made ∙ ap (λ w. typed z.a w x) z.right.made ∙ ap (λ w. typed w z.right.token x) q.made in
+          s.made ∙ ap (λ w. w s.a) z.made ∙ ap (typed z.a z.b) s.left.made ∙ ap (λ w. typed z.a w (ident x)) z.right.made ∙ ap (λ w. typed w (ident z.right.token) (ident x)) q.made in
           record {
             a = Some kind;
             b = ident z.right.token;
@@ -171,7 +171,7 @@ module _ (n : ℕ) where
       go (that z) =
           let x = s.right.token in
           that (record {
-            a = x;
+            a = ident x;
             b = untyped;
             front = (x, None) ∷ [];
             back = [];
@@ -198,17 +198,17 @@ module _ (n : ℕ) where
               let x = k.0 in
               let y = s.right.token in
               let cut : ts ≡ (x, None) ∷ ((k.4 ++ k.5) ++ s.back) = s.cut ∙ ap (λ w. w ++ s.back) (z.cut ∙ ap (λ w. z.front ++ w) z.right.0 ∙ append-nil z.front ∙ k.6) in
-              let value : v ≡ typed (k.2, k.3) y x = s.made ∙ ap (λ w. pair w s.b) (z.made ∙ ap Some k.9) ∙ ap (pair (Some (type_node x (false, named_node (ident x) k.2, k.3)))) s.right.made in
+              let value : v ≡ typed (k.2, k.3) (ident y) (ident x) = s.made ∙ ap (λ w. pair w s.b) (z.made ∙ ap Some k.9) ∙ ap (pair (Some (type_node x (false, named_node (ident x) k.2, k.3)))) s.right.made in
               that (record {
-                a = x;
-                b = typed (k.2, k.3) y;
+                a = ident x;
+                b = typed (k.2, k.3) (ident y);
                 front = (x, None) ∷ [];
                 back = (k.4 ++ k.5) ++ s.back;
                 cut = cut;
                 left = record { token = x; is = refl; fits = k.1; made = refl };
                 right = this (record {
                   a = (k.2, k.3);
-                  b = y;
+                  b = ident y;
                   front = k.4 ++ k.5;
                   back = s.back;
                   cut = refl;

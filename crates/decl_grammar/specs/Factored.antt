@@ -12,10 +12,11 @@ use Rattle.cy_tree.specs.declared.decl.Top.{Top}
 use Rattle.cy_tree.specs.declared.stmt.Simple.{Simple}
 use Rattle.cy_tree.specs.declared.types.Dim.{Dim}
 use Rattle.cy_tree.specs.declared.types.Ident.{Ident}
-use Rattle.forms.specs.Forms.{Mark, Form, either, one, both, nothing, or, guard}
+use Rattle.cy_tree.specs.declared.types.TypeNode.{TypeNode}
+use Rattle.forms.specs.Forms.{Mark, Form, either, one, both, nothing, or, placed, guard}
 use Rattle.forms.specs.Lists.{Row, push, first, second, pair, itself}
 use Rattle.expr_grammar.specs.Words.{is_plain_name, is_str, is_question_mark, is_open_bracket, is_close_bracket}
-use Rattle.expr_grammar.specs.Nodes.{at, ident, some, named_node, type_node}
+use Rattle.expr_grammar.specs.Nodes.{at, text, some, named_node}
 use Rattle.expr_grammar.specs.Grammar.{two, opt, flag, member, dims, is_positive}
 use Rattle.decl_grammar.specs.Words.{is_pass, is_import, is_from, is_cimport, is_cdef, is_cpdef, is_c_word, is_except, is_nogil, is_noexcept, is_star, is_newline}
 use Rattle.decl_grammar.specs.Nodes.{Typed, Marks, Behind, from_import_node, line_node, simples_node, star_node, value_node, noexcept_node, declared_by, pass_member, docstring_node, def_member, open_fields, cpdef_method, from_cimport, class_node, cpdef_function, cimport_top, def_top, stmt_top, pxd_pass_member, pxd_open_fields, pxd_cpdef_method, pxd_cimport, pxd_pass, pxd_class, pxd_function}
@@ -36,19 +37,22 @@ pub record Same (A : Type 0) (L M : Form Token A) : Type 0 where
 -- ---- [type] NAME
 
 -- what stands behind a first NAME, where that begins a type
-abbrev pub typed : Option Ident × List Dim → Token → Token → Typed
-typed p y x = (Some (type_node x (false, named_node (ident x) p.0, p.1)), ident y)
+abbrev pub named_type : Ident → Option Ident × List Dim → TypeNode
+named_type x p = record { at = x.at; constant = false; name = named_node x p.0; dims = p.1 }
 
-abbrev pub untyped : Token → Typed
-untyped x = (None, ident x)
+abbrev pub typed : Option Ident × List Dim → Ident → Ident → Typed
+typed p y x = (Some (named_type x p), y)
+
+abbrev pub untyped : Ident → Typed
+untyped x = (None, x)
 
 -- ['[' dims ']']
 unfoldable pub brackets : ℕ → Form Token (List Dim)
 brackets n = or (guard (is_positive n) two (both second (one (of is_open_bracket) itself) (both first dims (one (of is_close_bracket) itself)))) (nothing [])
 
 -- [['.' NAME] ['[' dims ']'] NAME]
-unfoldable pub behind_name : ℕ → Form Token (Token → Typed)
-behind_name n = or (both typed (both pair (opt member) (brackets n)) (one (of is_plain_name) itself)) (nothing untyped)
+unfoldable pub behind_name : ℕ → Form Token (Ident → Typed)
+behind_name n = or (both typed (both pair (opt member) (brackets n)) declared_name) (nothing untyped)
 
 -- a type that begins with no plain NAME, and the NAME behind it
 unfoldable pub definite : ℕ → Form Token Typed
@@ -56,7 +60,7 @@ definite n = both pair (both some (unless (of is_plain_name) (type_at n)) (nothi
 
 -- type NAME, where that begins with no plain NAME | NAME [['.' NAME] ['[' dims ']'] NAME]
 unfoldable pub name_factored : ℕ → Form Token Typed
-name_factored n = or (definite n) (both apply (one (of is_plain_name) itself) (behind_name n))
+name_factored n = or (definite n) (both apply declared_name (behind_name n))
 
 -- ---- headers
 
@@ -104,7 +108,7 @@ module _ (m : ℕ) where
   member_tail = both pair (typed_name (suc m)) (behind_member m)
 
   unfoldable pub member_factored : Form Token Member
-  member_factored = or (both first (one (of is_pass) pass_member) (one (of is_newline) itself)) (or (both docstring_node (one (of is_str) itself) (one (of is_newline) itself)) (or (mapped def_member (def m)) (or (fork open_fields declared_by (one (of is_cdef) itself) (open_names m) (member_tail)) (cpdef m cpdef_method))))
+  member_factored = or (both first (one (of is_pass) pass_member) (one (of is_newline) itself)) (or (placed docstring_node (both first (one (of is_str) text) (one (of is_newline) itself))) (or (mapped def_member (def m)) (or (fork open_fields declared_by (one (of is_cdef) itself) (open_names m) (member_tail)) (cpdef m cpdef_method))))
 
   -- [type] NAME (header ':' suite | vars)
   unfoldable pub top_tail : Form Token (Typed × Behind Top)

@@ -32,7 +32,7 @@ use Rattle.forms.specs.Readers.{sees}
 use Rattle.forms.specs.Lists.{Row, push, first, second, pair, itself, trail, trail_upto}
 use Rattle.expr_grammar.specs.declared.Level.TheVariants as level
 use Rattle.expr_grammar.specs.Words.{is_name, is_plain_name, is_int, is_str, is_none, is_if, is_else, is_not, is_in, is_comma, is_colon, is_question_mark, is_open_parenthesis, is_close_parenthesis}
-use Rattle.expr_grammar.specs.Nodes.{at, from, ident, int_of, cons, group_node}
+use Rattle.expr_grammar.specs.Nodes.{at, from, text, ident, int_of, cons, group_node}
 use Rattle.expr_grammar.specs.Grammar.{two, opt, flag, member, pair_of_three, type, deep, is_positive, Spells}
 use Rattle.decl_grammar.specs.Words.{is_pass, is_break, is_continue, is_return, is_raise, is_del, is_global, is_import, is_from, is_cimport, is_cdef, is_cpdef, is_class, is_def, is_as, is_elif, is_while, is_for, is_try, is_except, is_finally, is_with, is_nogil, is_noexcept, is_lock, is_access, is_c_word, is_assign, is_augop, is_star, is_minus, is_semicolon, is_newline, is_indent, is_dedent, is_end}
 use Rattle.decl_grammar.specs.Nodes.{pass_node, break_node, continue_node, return_node, raise_node, del_node, global_node, item_node, import_node, from_import_node, declared_node, Typed, Values, cdef_node, expression_node, augmented_node, assign_node, line_node, inline_node, block_node, simples_node, arm_node, if_node, while_node, for_node, handler_node, Handled, unhandled, try_node, lock_word, with_node, not_none, param_node, param_list, star_node, Amount, signed, value_node, noexcept_node, Marks, nogil_first, header_node, def_node, base_node, Body, alone, Behind, declared_by, Open, access_word, pass_member, docstring_node, def_member, open_fields, fields, method, cpdef_method, module_cimport, from_cimport, class_node, function, variables, cpdef_function, cimport_top, def_top, stmt_top, implementation_node, pxd_pass_member, pxd_open_fields, pxd_fields, pxd_method, pxd_cpdef_method, pxd_cimport, pxd_pass, pxd_class, pxd_function, definition_node}
@@ -362,7 +362,7 @@ module _ (m : ℕ) where
   -- 'pass' NEWLINE | STRING NEWLINE | def | 'cdef' ('public' | 'readonly') type NAME {',' NAME} NEWLINE
   -- | 'cdef' [type] NAME (header ':' suite | {',' NAME} NEWLINE) | 'cpdef' [type] NAME header ':' suite
   unfoldable pub class_member : Form Token Member
-  class_member = or (both first (one (of is_pass) pass_member) (one (of is_newline) itself)) (or (both docstring_node (one (of is_str) itself) (one (of is_newline) itself)) (or (mapped def_member def) (or (or open_member cdef_member) (cpdef cpdef_method))))
+  class_member = or (both first (one (of is_pass) pass_member) (one (of is_newline) itself)) (or (placed docstring_node (both first (one (of is_str) text) (one (of is_newline) itself))) (or (mapped def_member def) (or (or open_member cdef_member) (cpdef cpdef_method))))
 
   -- 'cdef' 'class' class
   unfoldable pub class_top : Form Token Top

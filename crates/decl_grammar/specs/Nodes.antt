@@ -47,7 +47,7 @@ use Rattle.cy_tree.specs.declared.stmt.Suite.TheVariants as suite
 use Rattle.cy_tree.specs.declared.types.Ident.{Ident}
 use Rattle.cy_tree.specs.declared.types.TypeNode.{TypeNode}
 use Rattle.forms.specs.Lists.{Row}
-use Rattle.expr_grammar.specs.Nodes.{at, class, text}
+use Rattle.expr_grammar.specs.Nodes.{at, class}
 
 -- ---- simple statements
 
@@ -272,8 +272,8 @@ access_word x = access_of (class x)
 abbrev pub pass_member : Token → Member
 pass_member x = member.Pass (at x)
 
-abbrev pub docstring_node : Token → Token → Member
-docstring_node x y = member.Docstring (at x) (text x)
+abbrev pub docstring_node : Token → List ℕ → Member
+docstring_node x t = member.Docstring (at x) t
 
 abbrev pub def_member : Def → Member
 def_member d = member.Def d

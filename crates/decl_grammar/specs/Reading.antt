@@ -30,7 +30,7 @@ use Rattle.forms.specs.Readers.{bad, unexpected, Reader, sees, read_one, read_bo
 use Rattle.forms.specs.Lists.{Row, push, first, second, pair, itself, read_trail, read_trail_upto}
 use Rattle.expr_grammar.specs.declared.Level.TheVariants as level
 use Rattle.expr_grammar.specs.Words.{is_name, is_plain_name, is_int, is_str, is_none, is_if, is_else, is_not, is_in, is_dot, is_comma, is_colon, is_question_mark, is_open_parenthesis, is_close_parenthesis, is_open_bracket, is_close_bracket, begins_expr, begins_type}
-use Rattle.expr_grammar.specs.Nodes.{at, from, ident, int_of, cons, some, group_node}
+use Rattle.expr_grammar.specs.Nodes.{at, from, text, ident, int_of, cons, some, group_node}
 use Rattle.expr_grammar.specs.Grammar.{two, pair_of_three, is_positive}
 use Rattle.expr_grammar.specs.Reading.{read_opt, read_flag, read_member, read_dims, read_type, reads}
 use Rattle.decl_grammar.specs.Words.{is_pass, is_break, is_continue, is_return, is_raise, is_del, is_global, is_import, is_from, is_cimport, is_cdef, is_cpdef, is_class, is_def, is_as, is_elif, is_while, is_for, is_try, is_except, is_finally, is_with, is_nogil, is_noexcept, is_lock, is_access, is_c_word, is_assign, is_augop, is_star, is_minus, is_semicolon, is_newline, is_indent, is_dedent, is_end, begins_word, begins_simple, begins_stmt}
@@ -90,8 +90,8 @@ read_brackets n = read_or (of is_open_bracket) (read_guard (is_positive n) (of i
 abbrev pub goes_on : Classes
 goes_on = either is_dot (either is_open_bracket is_plain_name)
 
-unfoldable pub read_behind_name : ℕ → Reader Token (Token → Typed)
-read_behind_name n = read_or (of goes_on) (read_both typed (read_both pair (read_opt is_dot read_member) (read_brackets n)) (read_one (of is_plain_name) itself)) (read_nothing untyped)
+unfoldable pub read_behind_name : ℕ → Reader Token (Ident → Typed)
+read_behind_name n = read_or (of goes_on) (read_both typed (read_both pair (read_opt is_dot read_member) (read_brackets n)) read_declared_name) (read_nothing untyped)
 
 -- what a type begins with, but a plain NAME
 abbrev pub is_definite : Classes
@@ -109,7 +109,7 @@ module _ (n : ℕ) where
   read_exprs = read_placed (from group_node) (read_both push (read_expr n) (read_trail (of is_comma) (of begins_expr) (read_expr n)))
 
   unfoldable pub read_typed_name : Reader Token Typed
-  read_typed_name = read_or (of is_definite) (read_definite n) (read_both apply (read_one (of is_plain_name) itself) (read_behind_name n))
+  read_typed_name = read_or (of is_definite) (read_definite n) (read_both apply read_declared_name (read_behind_name n))
 
   unfoldable pub read_value : Reader Token Expr
   read_value = read_both second (read_one (of is_assign) itself) (read_expr n)
@@ -311,7 +311,7 @@ module _ (m : ℕ) where
   read_member_tail = read_both pair (read_typed_name (suc m)) read_behind_member
 
   unfoldable pub read_class_member : Reader Token Member
-  read_class_member = read_or (of is_pass) (read_both first (read_one (of is_pass) pass_member) (read_one (of is_newline) itself)) (read_or (of is_str) (read_both docstring_node (read_one (of is_str) itself) (read_one (of is_newline) itself)) (read_or (of is_def) (read_mapped def_member read_def)
+  read_class_member = read_or (of is_pass) (read_both first (read_one (of is_pass) pass_member) (read_one (of is_newline) itself)) (read_or (of is_str) (read_placed docstring_node (read_both first (read_one (of is_str) text) (read_one (of is_newline) itself))) (read_or (of is_def) (read_mapped def_member read_def)
       (read_or (of is_cdef) (read_fork open_fields declared_by (read_one (of is_cdef) itself) is_access read_open read_member_tail) (read_cpdef cpdef_method))))
 
   unfoldable pub read_behind_top : Reader Token (Behind Top)
