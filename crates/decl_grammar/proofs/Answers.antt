@@ -11,9 +11,10 @@ use Rattle.forms.proofs.Answering.{answers, one_value}
 use Rattle.decl_grammar.specs.Grammar.{implementation, definition}
 use Rattle.decl_grammar.specs.Reading.{read_implementation, read_definition}
 use Rattle.decl_grammar.specs.Files.{IsFile, read_whole, at_its_end}
-use Rattle.decl_grammar.specs.Laws.{FilesAreRead, FilesSpellOne, FactoredAlike}
+use Rattle.decl_grammar.specs.Laws.{FilesAreRead, FilesSpellOne, FilesHaveOneAnswer, FactoredAlike}
 use Rattle.decl_grammar.proofs.NameLaws.{same_name}
 use Rattle.decl_grammar.proofs.HeaderLaws.{same_clause, same_marks}
+use Rattle.decl_grammar.proofs.OneFile.{one_file}
 use Rattle.decl_grammar.proofs.FileLaws.{same_member, same_top, same_pxd_member, same_item, implementation_exact, definition_exact}
 
 -- what is said of a longest run, at the end of the tokens and before
@@ -55,3 +56,6 @@ files_spell_one m = (spells_one (implementation m) (read_implementation m) (impl
 
 pub factored_alike : FactoredAlike
 factored_alike m = (same_name m, same_clause, same_marks, same_member m, same_top m, same_pxd_member m, same_item m)
+
+pub files_have_one_answer : FilesHaveOneAnswer
+files_have_one_answer m ts o w = (one_file (implementation m) ts o w, one_file (definition m) ts o w)

@@ -6,4 +6,5 @@ pub mod StmtLaws
 pub mod HeaderLaws
 pub mod FromLaws
 pub mod FileLaws
+pub mod OneFile
 pub mod Answers

@@ -262,17 +262,22 @@ read_beyond zero = read_some_of begins_simple (read_mapped simples_node (read_li
 read_beyond (suc k) = read_some_of begins_stmt (read_stmt zero (read_beyond k))
 
 lines_exact : ExactFor (List Stmt) (beyond zero) (read_beyond zero) false begins_simple begins_simple
+unfolding beyond
 lines_exact = let X = mapped_exact simples_node (line_exact zero) in sets begins_simple begins_simple refl refl (after_maybe cons X (loop X refl) refl)
 
 pub block_exact : (L : Form Token (List Stmt)) (p : Reader Token (List Stmt)) → ExactFor (List Stmt) L p false begins_stmt more_stmts → ExactFor Suite (block L) (read_block p) false is_indent none
 block_exact L p S = after second (token is_indent itself c.Indent refl) (after block_node S (token is_dedent itself c.Dedent refl) refl) refl
 
+beyond_by : (k : ℕ) → ExactFor Suite (block (beyond k)) (read_block (read_beyond k)) false is_indent none → ExactFor (List Stmt) (beyond (suc k)) (read_beyond (suc k)) false begins_stmt more_stmts
+unfolding beyond
+beyond_by k B = stmts_exact zero (beyond k) (read_beyond k) B
+
 block_beyond : (k : ℕ) → ExactFor Suite (block (beyond k)) (read_block (read_beyond k)) false is_indent none
 block_beyond zero = after second (token is_indent itself c.Indent refl) (after block_node lines_exact (token is_dedent itself c.Dedent refl) refl) refl
-block_beyond (suc k) = block_exact (beyond (suc k)) (read_beyond (suc k)) (stmts_exact zero (beyond k) (read_beyond k) (block_beyond k))
+block_beyond (suc k) = block_exact (beyond (suc k)) (read_beyond (suc k)) (beyond_by k (block_beyond k))
 
 beyond_exact : (k : ℕ) → ExactFor (List Stmt) (beyond (suc k)) (read_beyond (suc k)) false begins_stmt more_stmts
-beyond_exact k = stmts_exact zero (beyond k) (read_beyond k) (block_beyond k)
+beyond_exact k = beyond_by k (block_beyond k)
 
 simple_begins : (us : List Token) → Begins false (of begins_simple) us → Begins false (of begins_stmt) us
 simple_begins [] n = n
@@ -295,6 +300,7 @@ deeper_sentences =
 -- ---- at any room
 
 pub inside_exact : (n : ℕ) → ExactFor (List Stmt) (inside n) (read_inside n) false begins_stmt more_stmts
+unfolding inside read_inside
 inside_exact zero = record { exact = over_exact Token (List Stmt) two deeper (of begins_stmt) (of more_stmts) deeper_sentences }
 inside_exact (suc n) = stmts_exact n (inside n) (read_inside n) (block_exact (inside n) (read_inside n) (inside_exact n))
 

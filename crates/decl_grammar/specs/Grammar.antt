@@ -253,7 +253,7 @@ abbrev pub some_of : {A : Type 0} → Form Token A → Form Token (List A)
 some_of L = both cons L (many L)
 
 -- the statements of a suite for which there is no room, with suites at most so deep
-abbrev pub beyond : ℕ → Form Token (List Stmt)
+unfoldable pub beyond : ℕ → Form Token (List Stmt)
 beyond zero = some_of (mapped simples_node (line zero))
 beyond (suc k) = some_of (stmt zero (beyond k))
 
@@ -263,7 +263,7 @@ deeper ts all = (k : ℕ) × beyond k ts all
 
 -- The statements of an indented suite that stands where n more things may be opened. An INDENT has the first byte of
 -- the token behind it, so that a suite too deep breaks rule 2 at this token, unless nothing goes on with it.
-abbrev pub inside : ℕ → Form Token (List Stmt)
+unfoldable pub inside : ℕ → Form Token (List Stmt)
 inside zero = over two deeper
 inside (suc n) = some_of (stmt n (inside n))
 

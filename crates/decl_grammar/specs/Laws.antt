@@ -1,11 +1,13 @@
 -- The laws of the grammar of files.
-use Rattle.std.specs.Prelude.{ℕ, List}
+use Rattle.std.specs.Prelude.{◌≡◌, ℕ, List}
 use Rattle.pyx_lex.specs.declared.token.Token.{Token}
 use Rattle.cy_tree.specs.declared.decl.ClauseNode.{ClauseNode}
 use Rattle.cy_tree.specs.declared.decl.Member.{Member}
 use Rattle.cy_tree.specs.declared.decl.PxdItem.{PxdItem}
 use Rattle.cy_tree.specs.declared.decl.PxdMember.{PxdMember}
 use Rattle.cy_tree.specs.declared.decl.Top.{Top}
+use Rattle.cy_tree.specs.declared.content.Content.{Content}
+use Rattle.forms.specs.Readers.{Outcome}
 use Rattle.forms.specs.Exact.{SpellsOne}
 use Rattle.decl_grammar.specs.Nodes.{Typed, Marks}
 use Rattle.decl_grammar.specs.Grammar.{typed_name, clause, marks, class_member, top, implementation, pxd_class_member, pxd_item, definition}
@@ -20,6 +22,10 @@ FilesAreRead = (m : ℕ) (ts : List Token) → IsFile (implementation m) ts (rea
 -- No tokens spell two trees within the limits.
 abbrev pub FilesSpellOne : Type 0
 FilesSpellOne = (m : ℕ) → SpellsOne (implementation m) × SpellsOne (definition m)
+
+-- What is said of the answer leaves no second one.
+abbrev pub FilesHaveOneAnswer : Type 0
+FilesHaveOneAnswer = (m : ℕ) (ts : List Token) (o w : Outcome Token Content) → (IsFile (implementation m) ts o → IsFile (implementation m) ts w → o ≡ w) × (IsFile (definition m) ts o → IsFile (definition m) ts w → o ≡ w)
 
 -- Where two alternatives begin alike, the form with their beginning once spells the same.
 abbrev pub FactoredAlike : Type 0

@@ -221,7 +221,7 @@ module _ (n : ℕ) where
 abbrev pub read_some_of : {A : Type 0} → Classes → Reader Token A → Reader Token (List A)
 read_some_of b p = read_both cons p (read_many (of b) p)
 
-abbrev pub read_inside : ℕ → Reader Token (List Stmt)
+unfoldable pub read_inside : ℕ → Reader Token (List Stmt)
 read_inside zero = refuse (of begins_stmt) two
 read_inside (suc n) = read_some_of begins_stmt (read_stmt n (read_inside n))
 

@@ -3,4 +3,6 @@
 
 mod laws;
 
-pub use laws::{factored_forms_are_alike, files_are_read, files_spell_one_tree};
+pub use laws::{
+    factored_forms_are_alike, files_are_read, files_have_one_answer, files_spell_one_tree,
+};
