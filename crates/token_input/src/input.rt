@@ -1,4 +1,4 @@
-ghost use Rattle.std.specs.Prelude.{◌≡◌, ◌∷◌, ◌<◌, true, length, map, IfOk};
+ghost use Rattle.std.specs.Prelude.{◌≡◌, ◌∷◌, ◌-◌, ◌<◌, ◌≤◌, true, length, map, IfOk};
 ghost use Rattle.forms.specs.Readers.{sees, read_one, did};
 ghost use Rattle.forms.specs.Lists.{itself};
 ghost use Rattle.token_class.specs.Sets.{of};
@@ -26,6 +26,16 @@ pub fn classes_of(alloc: Global, tokens: &[Token]) -> Result<Vec<TokenClass>, Al
         .iter()
         .map(|token| class_of(&token.kind))
         .collect(alloc)
+}
+
+/// Whether the last of these tokens is the end.
+pub fn ends(tokens: &[Token]) -> bool
+    ensures { result ≡ is_ended tokens.now }
+{
+    match tokens {
+        [.., last] => matches!(last.kind, TokenKind::End),
+        [] => false,
+    }
 }
 
 /// A token, and its class.
@@ -72,6 +82,15 @@ impl<'a> Input<'a> {
         ensures { result ≡ length self.now }
     {
         self.rest.len()
+    }
+
+    /// The number of the next token, where there were so many tokens in all.
+    pub fn number(&self, total: usize) -> usize
+        requires { length self.now ≤ total }
+        ensures number { result ≡ total - length self.now }
+        ensures within { result < total }
+    {
+        total - self.rest.len()
     }
 
     /// Whether the next token is of the set.

@@ -10,7 +10,7 @@ mod types;
 mod words;
 
 pub use halt::Halt;
-pub use input::{Input, Taken, classes_of};
+pub use input::{Input, Taken, classes_of, ends};
 pub use lists::joined;
 pub use operators::comparison;
 pub use set::TokenSet;
