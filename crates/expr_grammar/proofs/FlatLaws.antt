@@ -61,7 +61,7 @@ unsigned_exact : ExactFor NumberWords unsigned read_unsigned false is_unsigned m
 unfolding unsigned read_unsigned
 unsigned_exact = sets is_unsigned more_number refl refl (after_maybe second (token is_unsigned itself c.Unsigned refl) behind_unsigned_exact refl)
 
-number_exact : ExactFor NumberWords number_words read_number_words false begins_number more_number
+pub number_exact : ExactFor NumberWords number_words read_number_words false begins_number more_number
 unfolding number_words read_number_words
 number_exact =
     let ints = token is_int_word (λ x. number.Int) c.IntWord refl in
@@ -70,7 +70,7 @@ number_exact =
 
 -- ---- types without their room
 
-member_exact : ExactFor Ident member read_member false is_dot none
+pub member_exact : ExactFor Ident member read_member false is_dot none
 unfolding member read_member
 member_exact = after second (token is_dot itself c.Dot refl) (token is_name ident c.Name refl) refl
 

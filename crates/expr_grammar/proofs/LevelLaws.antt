@@ -48,7 +48,7 @@ module _ (here inside : Bool) (I : Level → Form Token Expr) (P : Level → Rea
     (X : here ≡ true → (l : Level) → ExactFor Expr (I l) (P l) false (begins_of l) (more_of l)) where
   -- ---- types
 
-  type_exact : ExactFor TypeNode (type here inside I) (read_type here inside P) false begins_type more_type
+  pub type_exact : ExactFor TypeNode (type here inside I) (read_type here inside P) false begins_type more_type
   unfolding type read_type
   type_exact =
       let close = token is_close_bracket itself c.CloseBracket refl in
@@ -249,7 +249,7 @@ module _ (here inside : Bool) (I : Level → Form Token Expr) (P : Level → Rea
 
 -- ---- at any room
 
-some_deep : (l : Level) → Sentence Token Expr (deep l)
+pub some_deep : (l : Level) → Sentence Token Expr (deep l)
 some_deep l = let s = some_token is_name name_node c.Name refl in record { tokens = s.tokens; value = s.value; spelled = (0, s.spelled) }
 
 pub exact : (n : ℕ) (l : Level) → ExactFor Expr (Spells n l) (reads n l) false (begins_of l) (more_of l)

@@ -64,12 +64,12 @@ module _ (T A : Type 0) (L : Form T A) where
     pub clean : IsClean run
     pub longest : Stops L (plain run) rest
 
-  abbrev of_found : (ts rest : List T) (a : A) → Found T A L ts rest a → Run ts rest
+  abbrev pub of_found : (ts rest : List T) (a : A) → Found T A L ts rest a → Run ts rest
   of_found ts rest a f =
       let all : L (f.run ++ []) a = let P : List (Mark T) → Type 0 = λ z. L z a in subst P (sym (append-nil f.run)) f.spelled in
       record { run = f.run; cut = f.cut; later = []; value = a; spelled = all; clean = f.clean f.run [] a refl all; longest = f.longest }
 
-  abbrev of_wrong : (ts rest : List T) → Wrong T A L ts rest → Run ts rest
+  abbrev pub of_wrong : (ts rest : List T) → Wrong T A L ts rest → Run ts rest
   of_wrong ts rest w = record { run = w.run; cut = w.cut; later = w.goes.0; value = w.goes.1; spelled = w.goes.2; clean = w.clean w.run w.goes.0 w.goes.1 refl w.goes.2; longest = w.longest }
 
   -- what begins with more begins with less
@@ -86,7 +86,7 @@ module _ (T A : Type 0) (L : Form T A) where
   run_starts : (ts rest : List T) (r : Run ts rest) → Starts L (plain r.run)
   run_starts ts rest r = (r.run, r.later, r.value, refl, r.spelled)
 
-  same_run : (ts rest more : List T) (r : Run ts rest) (s : Run ts more) → (plain r.run ≡ plain s.run) × (rest ≡ more)
+  pub same_run : (ts rest more : List T) (r : Run ts rest) (s : Run ts more) → (plain r.run ≡ plain s.run) × (rest ≡ more)
   same_run ts rest more r s = go (fronts (plain r.run) rest (plain s.run) more (sym r.cut ∙ s.cut))
     where
       go : Fronts T (plain r.run) rest (plain s.run) more → (plain r.run ≡ plain s.run) × (rest ≡ more)
@@ -114,7 +114,7 @@ module _ (T A : Type 0) (L : Form T A) where
           let r : y.1 ≡ Some n = p.1 in cc
       go (y ∷ z ∷ there) e more before f g = cc
 
-  run_or_passed : (n : ℕ) (ts rest more : List T) → Run ts rest → Passed T A L n ts more → ⊥
+  pub run_or_passed : (n : ℕ) (ts rest more : List T) → Run ts rest → Passed T A L n ts more → ⊥
   run_or_passed n ts rest more r x = go (fronts (plain r.run) rest (x.before ++ x.token ∷ []) x.after (sym r.cut ∙ x.cut ∙ sym (append_assoc x.before (x.token ∷ []) x.after)))
     where
       go : Fronts T (plain r.run) rest (x.before ++ x.token ∷ []) x.after → ⊥

@@ -1,2 +1,4 @@
 pub mod Failing
 pub mod Last
+pub mod Alone
+pub mod Once

@@ -2,7 +2,7 @@ ghost use Rattle.std.specs.Prelude.{◌≡◌, ◌∷◌, ◌-◌, ◌<◌, ◌�
 ghost use Rattle.forms.specs.Readers.{sees, read_one, did};
 ghost use Rattle.forms.specs.Lists.{itself};
 ghost use Rattle.token_class.specs.Sets.{of};
-ghost use Rattle.token_input.specs.Ended.{is_end, is_ended};
+ghost use Rattle.token_input.specs.Ended.{IsAlone, is_end, is_ended};
 ghost use Rattle.token_input.specs.Reads.{Takes, StartsAt, Reads, IsStop};
 ghost use Rattle.expr_grammar.specs.Words.{is_in, is_int, is_lone, is_order, is_str};
 ghost use Rattle.expr_grammar.specs.Nodes as node;
@@ -108,6 +108,23 @@ impl<'a> Input<'a> {
         ensures { result ≡ sees (of is_end) self.now }
     {
         matches!(self.classes[0], TokenClass::End)
+    }
+
+    /// Says whether the end is next and nothing stands behind it; where it isn't so, what is left begins with the
+    /// token that is wrong.
+    #[tactic(auto, unfolding(forms::specs::Readers::read_one))]
+    pub fn end(&mut self) -> Result<(), Halt>
+        ensures { IsAlone self.old result self.new }
+    {
+        if !self.at_end() {
+            return Err(Halt::Unexpected);
+        }
+        if self.rest.len() == 1 {
+            return Ok(());
+        }
+        self.rest = &self.rest[1..];
+        self.classes = &self.classes[1..];
+        Err(Halt::Unexpected)
     }
 
     /// The first byte of the next token.

@@ -14,5 +14,5 @@ pub use input::{Input, Taken, classes_of, ends};
 pub use lists::joined;
 pub use operators::comparison;
 pub use set::TokenSet;
-pub use types::{dims, type_name, type_node};
+pub use types::{dims, member, type_name, type_node, view};
 pub use words::ExprSet;

@@ -173,8 +173,9 @@ fn number_words(input: &mut Input<'_>) -> Result<NumberWords, Halt>
     input.lone()
 }
 
+/// Reads a name behind a dot.
 #[tactic(auto, unfolding(expr_grammar::specs::Reading::read_member, forms::specs::Readers::read_both))]
-fn member(alloc: Global, input: &mut Input<'_>) -> Result<Ident, Halt>
+pub fn member(alloc: Global, input: &mut Input<'_>) -> Result<Ident, Halt>
     ensures { Reads (spec.read_member input.old) result input.new }
 {
     input.expect(ExprSet::Dot)?;
@@ -296,8 +297,9 @@ pub fn dims(alloc: Global, input: &mut Input<'_>) -> Result<Items<Dim>, Halt>
     Ok(joined(alloc, first, more)?)
 }
 
+/// Reads the brackets of a view, where so many things may be opened.
 #[tactic(auto, unfolding(forms::specs::Readers::read_both, forms::specs::Readers::read_guard, forms::specs::Readers::refuse))]
-fn view(alloc: Global, input: &mut Input<'_>, room: usize) -> Result<Items<Dim>, Halt>
+pub fn view(alloc: Global, input: &mut Input<'_>, room: usize) -> Result<Items<Dim>, Halt>
     ensures { Reads (read_guard (is_positive room) (of set.is_open_bracket) two (read_both second (read_one (of set.is_open_bracket) itself) (read_both first spec.read_dims (read_one (of set.is_close_bracket) itself))) input.old) result input.new }
 {
     if room == 0 {

@@ -1,0 +1,10 @@
+pub mod Apart
+pub mod Unless
+pub mod Same
+pub mod NameLaws
+pub mod StmtLaws
+pub mod HeaderLaws
+pub mod FromLaws
+pub mod FileLaws
+pub mod OneFile
+pub mod Answers
