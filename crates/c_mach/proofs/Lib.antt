@@ -1,10 +1,5 @@
 pub mod Calm
-pub mod Fits
-pub mod Pairs
-pub mod Planned
 pub mod Puts
-pub mod Running
-pub mod Searches
 pub mod Seen
 pub mod Settled
 pub mod Stepped

@@ -6,7 +6,7 @@ use Rattle.c_state.specs.declared.tree.Place.{Place}
 use Rattle.c_state.specs.declared.state.Value.{Value}
 use Rattle.c_state.specs.declared.state.Cell.{Cell}
 use Rattle.c_state.specs.declared.state.Spot.{Spot}
-use Rattle.c_mach.specs.declared.parts.Activation.{Activation}
+use Rattle.c_look.specs.declared.parts.Activation.{Activation}
 use Rattle.c_mach.specs.Applied.{on_last, last_of}
 use Rattle.c_state.specs.State.{same_variable, same_place, converted, put, put_spot}
 

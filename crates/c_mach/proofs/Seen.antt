@@ -11,11 +11,11 @@ use Rattle.c_state.specs.declared.state.Value.{Value}
 use Rattle.c_state.specs.declared.state.Doing.TheVariants as doing
 use Rattle.c_state.specs.State.{put, Frame, CState}
 use Rattle.c_state.specs.Statements.{Moved, Went, lend}
-use Rattle.c_mach.specs.declared.parts.Activation.{Activation}
-use Rattle.c_mach.specs.declared.parts.Effect.{Effect}
-use Rattle.c_mach.specs.declared.parts.Effect.TheVariants as effect
-use Rattle.c_mach.specs.Views.{frame_view, frames_view}
-use Rattle.c_mach.specs.Effects.{handed, course_after, effected}
+use Rattle.c_look.specs.declared.parts.Activation.{Activation}
+use Rattle.c_plan.specs.declared.effects.Effect.{Effect}
+use Rattle.c_plan.specs.declared.effects.Effect.TheVariants as effect
+use Rattle.c_look.specs.Views.{frame_view, frames_view}
+use Rattle.c_plan.specs.Effects.{handed, course_after, effected}
 use Rattle.c_mach.specs.Applied.{Parts, Fixed, on_last, stored, given, applied, effect_events, last_of, seen}
 use Rattle.c_mach.proofs.Puts.{on_last-snoc}
 

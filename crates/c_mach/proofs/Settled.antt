@@ -25,19 +25,20 @@ use Rattle.c_state.specs.Reads.{FoundFunction, NotFound, frame_of, initializer_f
 use Rattle.c_state.specs.Statements.{store, lend, Moved, Went, on, off, tell, script_to}
 use Rattle.c_state.specs.Outside.{How, NewReference, Borrowed, SetsError, how, deliver_new, deliver_by, deliver, answered, called, enter, top_called, top, begin}
 use Rattle.c_state.specs.Machine.{move, is_asking, none_runs, outside_by, outside, went_or, settle_for, settle}
-use Rattle.c_mach.specs.declared.parts.Standing.{Standing}
+use Rattle.c_look.specs.declared.parts.Standing.{Standing}
 use Rattle.c_mach.specs.declared.parts.Delivery.{Delivery}
 use Rattle.c_mach.specs.declared.parts.Delivery.TheVariants as delivery
 use Rattle.c_mach.specs.declared.parts.Turn.TheVariants as turn
-use Rattle.c_mach.specs.Views.{function_there, found_with, found_at, frame_by, frame_view, no_function, activated}
-use Rattle.c_mach.specs.Lookups.{standing_entered, standing_next}
+use Rattle.c_look.specs.Views.{function_there, found_with, found_at, frame_by, frame_view, no_function, activated}
+use Rattle.c_look.specs.Lookups.{standing_entered, standing_next}
 use Rattle.c_mach.specs.Turns.{Stage, living, is_found, fitting, rest_of, delivery_new, delivery_by, answer_turn, enter_turn, enter_else, enter_or, ask_turn, top_turn, begin_there, begin_at, idle_go, Go, go, ask_go, doing_go, newest_go, failed_go, effect_go}
-use Rattle.c_mach.specs.Effects.{delivered, turned, course_after, handed, effected}
-use Rattle.c_mach.specs.declared.parts.Activation.{Activation}
-use Rattle.c_mach.specs.declared.parts.Effect.{Effect}
-use Rattle.c_mach.specs.declared.parts.Effect.TheVariants as effect
-use Rattle.c_mach.proofs.Planned.{IsBelow}
-use Rattle.c_mach.proofs.Searches.{entered-is, next-is}
+use Rattle.c_mach.specs.Turned.{delivered, turned}
+use Rattle.c_plan.specs.Effects.{course_after, handed, effected}
+use Rattle.c_look.specs.declared.parts.Activation.{Activation}
+use Rattle.c_plan.specs.declared.effects.Effect.{Effect}
+use Rattle.c_plan.specs.declared.effects.Effect.TheVariants as effect
+use Rattle.c_plan.proofs.Planned.{IsBelow}
+use Rattle.c_look.proofs.Searches.{entered-is, next-is}
 
 abbrev pub stage_from : List CFile → CState → Stage
 stage_from files c = record {

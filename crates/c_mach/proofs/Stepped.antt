@@ -30,18 +30,19 @@ use Rattle.c_state.specs.declared.state.Entered.TheVariants as entered
 use Rattle.c_state.specs.State.{lookup, spot, has, lose, converted}
 use Rattle.c_state.specs.Reads.{lends, passed, values_of, result_kind}
 use Rattle.c_state.specs.Statements.{op_of, same_value, by_comparison, owns_none, owns_just}
-use Rattle.c_mach.specs.declared.parts.Standing.{Standing}
-use Rattle.c_mach.specs.declared.parts.Activation.{Activation}
-use Rattle.c_mach.specs.declared.parts.Effect.{Effect}
-use Rattle.c_mach.specs.declared.parts.Effect.TheVariants as effect
+use Rattle.c_look.specs.declared.parts.Standing.{Standing}
+use Rattle.c_look.specs.declared.parts.Activation.{Activation}
+use Rattle.c_plan.specs.declared.effects.Effect.{Effect}
+use Rattle.c_plan.specs.declared.effects.Effect.TheVariants as effect
 use Rattle.c_mach.specs.declared.parts.Delivery.{Delivery}
 use Rattle.c_mach.specs.declared.parts.Delivery.TheVariants as delivery
 use Rattle.c_mach.specs.declared.parts.Turn.{Turn}
 use Rattle.c_mach.specs.declared.parts.Turn.TheVariants as turn
-use Rattle.c_mach.specs.Views.{function_there, frame_view, frames_view, activated}
-use Rattle.c_mach.specs.Lookups.{label_line, standing_named}
-use Rattle.c_mach.specs.Plans.{checked, write_fault, own_after_store, store_fault, ask_fault, row_fault, call_fault, call_held, all_held_in, loans_in, held_in, branch_fault, taken_line, counted_fault, return_fault, operand_here, operands_here, spots_here, function_here, after, write_plan, store_plan, row_plan, ask_plan, call_there, call_plan, gain_of, gain_plan, loss_of, loss_plan, branch_plan, jump_plan, hand_plan, object_plan, null_plan, null_with, result_plan, return_plan, read_then, Scene, assign_plan, plan}
-use Rattle.c_mach.specs.Effects.{delivered, delivered_to, turned}
+use Rattle.c_look.specs.Views.{function_there, frame_view, frames_view, activated}
+use Rattle.c_look.specs.Lookups.{label_line, standing_named}
+use Rattle.c_plan.specs.Plans.{checked, write_fault, own_after_store, store_fault, ask_fault, row_fault, call_fault, call_held, loans_in, branch_fault, taken_line, counted_fault, return_fault, operand_here, operands_here, spots_here, function_here, after, write_plan, store_plan, row_plan, ask_plan, call_there, call_plan, gain_of, gain_plan, loss_of, loss_plan, branch_plan, jump_plan, hand_plan, object_plan, null_plan, null_with, result_plan, return_plan, read_then, Scene, assign_plan, plan}
+use Rattle.c_look.specs.Readings.{all_held_in, held_in}
+use Rattle.c_mach.specs.Turned.{delivered, delivered_to, turned}
 use Rattle.c_mach.specs.Applied.{Parts, Fixed, answered_to, given, runs, on_last, delivered_in, moved_on, turn_events, last_of, seen}
 use Rattle.c_mach.specs.Deciding.{NoFault}
 use Rattle.c_mach.proofs.Puts.{on_last-snoc}

@@ -21,20 +21,22 @@ use Rattle.c_state.specs.Objects.{read_objs}
 use Rattle.c_state.specs.State.{Frame, CState}
 use Rattle.c_state.specs.Statements.{Went, Over, Faulted, act, run_line}
 use Rattle.c_state.specs.Machine.{by_frame, by_frames, by_course, move, is_asking, none_runs, outside_by, outside, settle, over_answer, stepped, c_step}
-use Rattle.c_mach.specs.declared.parts.Standing.{Standing}
-use Rattle.c_mach.specs.declared.parts.Activation.{Activation}
-use Rattle.c_mach.specs.declared.parts.Effect.{Effect}
-use Rattle.c_mach.specs.declared.parts.Effect.TheVariants as effect
+use Rattle.c_look.specs.declared.parts.Standing.{Standing}
+use Rattle.c_look.specs.declared.parts.Activation.{Activation}
+use Rattle.c_plan.specs.declared.effects.Effect.{Effect}
+use Rattle.c_plan.specs.declared.effects.Effect.TheVariants as effect
 use Rattle.c_mach.specs.declared.parts.Turn.{Turn}
 use Rattle.c_mach.specs.declared.parts.Turn.TheVariants as turn
-use Rattle.c_mach.specs.Views.{function_at, function_there, found_at, found_with, frame_view, frames_view}
-use Rattle.c_mach.specs.Lookups.{Next, Lines, NoLine, next_line, standing_entered, standing_next}
-use Rattle.c_mach.specs.Plans.{Scene, plan}
-use Rattle.c_mach.specs.Effects.{effected, turned}
+use Rattle.c_look.specs.Views.{function_at, function_there, found_at, found_with, frame_view, frames_view}
+use Rattle.c_look.specs.Lookups.{Next, Lines, NoLine, next_line, standing_entered, standing_next}
+use Rattle.c_plan.specs.Plans.{Scene, plan}
+use Rattle.c_plan.specs.Effects.{effected}
+use Rattle.c_mach.specs.Turned.{turned}
 use Rattle.c_mach.specs.Turns.{Stage, Go, is_found, fitting, enter_else, enter_or, top_turn, begin_there, begin_at, idle_go, effect_go}
 use Rattle.c_mach.specs.Applied.{Parts, Fixed, applied, effect_events, moved_on, turn_events, last_of, seen}
-use Rattle.c_mach.specs.Deciding.{next_effect, lines_after, next_here, doing_effect, effect_here, scene_at, stage_at, rests, is_resting, NoFault, finished, finished_events, started, Starts, IsDecided, IsStep}
-use Rattle.c_mach.proofs.Planned.{IsBelow, planned}
+use Rattle.c_plan.specs.Running.{next_effect, lines_after, next_here, doing_effect, effect_here}
+use Rattle.c_mach.specs.Deciding.{scene_at, stage_at, rests, is_resting, NoFault, finished, finished_events, started, Starts, IsDecided, IsFirst, Ends, IsStep}
+use Rattle.c_plan.proofs.Planned.{IsBelow, planned}
 use Rattle.c_mach.proofs.Settled.{calm, idle-settled, failed-settled, effect-settled, runs-calm}
 use Rattle.c_mach.proofs.Calm.{settled_calm}
 use Rattle.c_mach.proofs.Seen.{view-above, last-split, last-none, effect-seen}
@@ -348,27 +350,31 @@ start-rests x p script ev event begun taken a i e n t q f g s d z u =
     subst (λ (r : Parts). IsTrue (is_resting r.course (last_of r.frames))) (sym u)
     (goes-rests x (started p begun taken a) script (ev ++ event ∷ []) (parts_after (started p begun taken a) [] a i e n t) (events_after (ev ++ event ∷ []) e t) w)
 
+-- the parts once a frame has begun, without that frame
+pub begun-parts : (p n : Parts) (begun taken : ℕ) (a : Activation) → n ≡ p → p.frames ≡ [] → record n { taken = taken; begun = begun } ≡ without (started p begun taken a) []
+begun-parts p n begun taken a e f =
+    ap (λ (r : Parts). record r { taken = taken; begun = begun }) e ∙ ap (λ xs. record p { taken = taken; begun = begun; frames = xs }) f
+
 -- the first turn
 first-settled : (x : Fixed) (p : Parts) (script : List Entry) (ev : List Event) (n : ℕ) (t : Turn) → p.frames ≡ [] → p.course ≡ course.Goes
-    → record { turn = t; rest = drop n script } ≡ idle_go (stage_at x p) (drop p.taken script)
-    → settle x.files (seen x p script ev) ≡ seen x (moved_on n t p) script (ev ++ turn_events t)
+    → IsFirst x p script n t → settle x.files (seen x p script ev) ≡ seen x (moved_on n t p) script (ev ++ turn_events t)
+unfolding IsFirst
 first-settled x p script ev n t f g s =
     idle-settled x.files (seen x p script ev) (ap (frames_view x.files) f) g
     ∙ (ap (λ (y : Go). turned x.files y.rest (seen x p script ev) y.turn) (sym s) ∙ turn-seen x p n t script ev)
 
-first-start : (x : Fixed) (p : Parts) (script : List Entry) (n : ℕ) (t : Turn) → record { turn = t; rest = drop n script } ≡ idle_go (stage_at x p) (drop p.taken script) → IsStart t
+pub first-start : (x : Fixed) (p : Parts) (script : List Entry) (n : ℕ) (t : Turn) → IsFirst x p script n t → IsStart t
+unfolding IsFirst
 first-start x p script n t s = subst (λ (y : Go). IsStart y.turn) (sym s) (idle-start (stage_at x p) (drop p.taken script))
 
 pub starts-begin : (x : Fixed) (p : Parts) (script : List Entry) (ev : List Event) (n : ℕ) (name : List ℕ) (k : ℕ) (b : Activation) → p.frames ≡ [] → p.course ≡ course.Goes
-    → record { turn = turn.Begin name k b; rest = drop n script } ≡ idle_go (stage_at x p) (drop p.taken script)
-    → Starts x p script ev (event.Init name) b k n
+    → IsFirst x p script n (turn.Begin name k b) → Starts x p script ev (event.Init name) b k n
 unfolding Starts
 starts-begin x p script ev n name k b f g s =
     (first-settled x p script ev n (turn.Begin name k b) f g s, ap is_asking (first-start x p script n (turn.Begin name k b) s))
 
 pub starts-enter : (x : Fixed) (p : Parts) (script : List Entry) (ev : List Event) (n : ℕ) (callee : Callee) (args : List Obj) (b : Activation) → p.frames ≡ [] → p.course ≡ course.Goes
-    → record { turn = turn.Enter callee args b; rest = drop n script } ≡ idle_go (stage_at x p) (drop p.taken script)
-    → Starts x p script ev (event.Enter callee args) b p.begun n
+    → IsFirst x p script n (turn.Enter callee args b) → Starts x p script ev (event.Enter callee args) b p.begun n
 unfolding Starts
 starts-enter x p script ev n callee args b f g s = (
   first-settled x p script ev n (turn.Enter callee args b) f g s
@@ -376,20 +382,23 @@ starts-enter x p script ev n callee args b f g s = (
   ap is_asking (first-start x p script n (turn.Enter callee args b) s),
 )
 
-pub first-ends : (x : Fixed) (p : Parts) (script : List Entry) (ev : List Event) (n : ℕ) (q : Parts) (ew : List Event) → p.frames ≡ [] → p.course ≡ course.Goes
-    → record { turn = turn.End; rest = drop n script } ≡ idle_go (stage_at x p) (drop p.taken script)
-    → q ≡ moved_on n turn.End p → ew ≡ ev ++ event.End ∷ [] → IsStep x p script ev step.Ended q ew
-unfolding IsStep
-first-ends x p script ev n q ew f g s u v =
+-- where the run ends
+pub first-ends : (x : Fixed) (p : Parts) (script : List Entry) (ev : List Event) (n : ℕ) → p.frames ≡ [] → p.course ≡ course.Goes
+    → IsFirst x p script n turn.End → Ends x p script ev n
+unfolding Ends
+first-ends x p script ev n f g s =
     ending x.files (seen x p script ev) (seen x (moved_on n turn.End p) script (ev ++ event.End ∷ [])) (first-settled x p script ev n turn.End f g s) refl
-    ∙ sym (ap (λ r. record { answer = step.Ended; state = seen x r script ew }) u ∙ ap (λ l. record { answer = step.Ended; state = seen x (moved_on n turn.End p) script l }) v)
 
-pub failed-ends : (x : Fixed) (p : Parts) (script : List Entry) (ev : List Event) (q : Parts) (ew : List Event) → p.course ≡ course.Failed
-    → q ≡ moved_on p.taken turn.End p → ew ≡ ev ++ event.End ∷ [] → IsStep x p script ev step.Ended q ew
-unfolding IsStep
-failed-ends x p script ev q ew g u v =
+pub failed-ends : (x : Fixed) (p : Parts) (script : List Entry) (ev : List Event) → p.course ≡ course.Failed → Ends x p script ev p.taken
+unfolding Ends
+failed-ends x p script ev g =
     ending x.files (seen x p script ev) (seen x (moved_on p.taken turn.End p) script (ev ++ event.End ∷ [])) (failed-settled x.files (seen x p script ev) g ∙ turn-seen x p p.taken turn.End script ev) refl
-    ∙ sym (ap (λ r. record { answer = step.Ended; state = seen x r script ew }) u ∙ ap (λ l. record { answer = step.Ended; state = seen x (moved_on p.taken turn.End p) script l }) v)
+
+pub is-ended : (x : Fixed) (p : Parts) (script : List Entry) (ev : List Event) (n : ℕ) (q : Parts) (ew : List Event) → Ends x p script ev n
+    → q ≡ moved_on n turn.End p → ew ≡ ev ++ event.End ∷ [] → IsStep x p script ev step.Ended q ew
+unfolding IsStep Ends
+is-ended x p script ev n q ew e u v =
+    e ∙ sym (ap (λ r. record { answer = step.Ended; state = seen x r script ew }) u ∙ ap (λ l. record { answer = step.Ended; state = seen x (moved_on n turn.End p) script l }) v)
 
 over-is : (x : Fixed) (p : Parts) (script : List Entry) (ev : List Event) (k : Course) → p.course ≡ k → outside_by (seen x p script ev) k ≡ false → by_course x.files (seen x p script ev) k ≡ Over
     → c_step x.files (seen x p script ev) ≡ record { answer = over_answer k; state = seen x p script ev }

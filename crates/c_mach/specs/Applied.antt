@@ -13,17 +13,17 @@ use Rattle.c_state.specs.declared.state.Doing.TheVariants as doing
 use Rattle.c_state.specs.declared.state.Course.{Course}
 use Rattle.c_state.specs.declared.state.Course.TheVariants as course
 use Rattle.c_state.specs.declared.space.Entry.{Entry}
-use Rattle.c_mach.specs.Views.{frames_view}
+use Rattle.c_look.specs.Views.{frames_view}
 use Rattle.c_state.specs.State.{CState, put, put_to, spots_at, set_spots, put_spot}
-use Rattle.c_mach.specs.declared.parts.Activation.{Activation}
+use Rattle.c_look.specs.declared.parts.Activation.{Activation}
 use Rattle.c_mach.specs.declared.parts.Core.{Core}
-use Rattle.c_mach.specs.declared.parts.Effect.{Effect}
-use Rattle.c_mach.specs.declared.parts.Effect.TheVariants as effect
+use Rattle.c_plan.specs.declared.effects.Effect.{Effect}
+use Rattle.c_plan.specs.declared.effects.Effect.TheVariants as effect
 use Rattle.c_mach.specs.declared.parts.Delivery.{Delivery}
 use Rattle.c_mach.specs.declared.parts.Delivery.TheVariants as delivery
 use Rattle.c_mach.specs.declared.parts.Turn.{Turn}
 use Rattle.c_mach.specs.declared.parts.Turn.TheVariants as turn
-use Rattle.c_mach.specs.Effects.{course_after}
+use Rattle.c_plan.specs.Effects.{course_after}
 
 -- what changes in a step
 pub record Parts : Type 0 where

@@ -2,48 +2,23 @@
 use Rattle.std.specs.Prelude.{◌≡◌, ℕ, Bool, true, false, not, List, [], ◌∷◌, ◌++◌, Option, Some, None, drop}
 use Rattle.c_state.specs.declared.space.Entry.{Entry}
 use Rattle.c_state.specs.declared.space.Event.{Event}
-use Rattle.c_state.specs.declared.tree.Line.{Line}
-use Rattle.c_state.specs.declared.state.FaultKind.TheVariants as fault
+use Rattle.c_state.specs.declared.space.Event.TheVariants as event
 use Rattle.c_state.specs.declared.state.Step.{Step}
 use Rattle.c_state.specs.declared.state.Step.TheVariants as step
-use Rattle.c_state.specs.declared.state.Doing.{Doing}
 use Rattle.c_state.specs.declared.state.Doing.TheVariants as doing
 use Rattle.c_state.specs.declared.state.Course.{Course}
 use Rattle.c_state.specs.declared.state.Course.TheVariants as course
 use Rattle.c_state.specs.Machine.{settle, is_asking, Stepped, c_step}
-use Rattle.c_mach.specs.declared.parts.Activation.{Activation}
-use Rattle.c_mach.specs.declared.parts.Effect.{Effect}
-use Rattle.c_mach.specs.declared.parts.Effect.TheVariants as effect
-use Rattle.c_mach.specs.Lookups.{Next, Lines, NoLine, next_line}
-use Rattle.c_mach.specs.Plans.{Scene, function_here, plan}
+use Rattle.c_look.specs.declared.parts.Activation.{Activation}
+use Rattle.c_plan.specs.declared.effects.Effect.{Effect}
+use Rattle.c_plan.specs.declared.effects.Effect.TheVariants as effect
+use Rattle.c_plan.specs.Plans.{Scene}
+use Rattle.c_plan.specs.Running.{lines_after, next_here, effect_here}
 use Rattle.c_mach.specs.Applied.{Parts, Fixed, applied, effect_events, moved_on, turn_events, last_of, seen}
-use Rattle.c_mach.specs.Turns.{Stage, effect_go}
+use Rattle.c_mach.specs.Turns.{Stage, idle_go, effect_go}
 use Rattle.c_mach.specs.declared.parts.Turn.{Turn}
-use Rattle.c_mach.specs.Views.{function_at}
-
--- what the next line comes to: a body that ends without a return is stuck
-abbrev pub next_effect : Scene → Next → Effect
-next_effect s NoLine = effect.Fault fault.Stuck
-next_effect s (Lines st ls) = plan s st
-
-abbrev pub lines_after : Next → List Line
-lines_after NoLine = []
-lines_after (Lines st ls) = ls
-
-abbrev pub next_here : Scene → Next
-next_here s = next_line (drop s.here.line (function_here s).lines)
-
--- what a statement comes to in a frame, which runs or waits
-abbrev pub running_effect : Doing → Effect → Effect
-running_effect doing.Runs e = e
-running_effect _ e = effect.Fault fault.Stuck
-
--- what a frame comes to, which runs or waits
-abbrev pub doing_effect : Scene → Doing → Effect
-doing_effect s d = running_effect d (next_effect s (next_here s))
-
-abbrev pub effect_here : Scene → Effect
-effect_here s = doing_effect s s.here.doing
+use Rattle.c_mach.specs.declared.parts.Turn.TheVariants as turn
+use Rattle.c_look.specs.Views.{function_at}
 
 abbrev pub scene_at : Fixed → Parts → Activation → Scene
 scene_at x p a = record {
@@ -88,6 +63,10 @@ unfoldable pub Starts : Fixed → Parts → List Entry → List Event → Event 
 Starts x p script ev event a begun taken =
     (settle x.files (seen x p script ev) ≡ seen x (started p begun taken a) script (ev ++ event ∷ [])) × (is_asking a.doing ≡ false)
 
+-- the outside's turn where no frame runs, after which so many entries are taken
+unfoldable pub IsFirst : Fixed → Parts → List Entry → ℕ → Turn → Type 0
+IsFirst x p script n t = record { turn = t; rest = drop n script } ≡ idle_go (stage_at x p) (drop p.taken script)
+
 -- the newest frame asks nothing, while the run goes on
 abbrev pub rests : Option Activation → Bool
 rests None = true
@@ -109,3 +88,8 @@ unfoldable pub IsStep : Fixed → Parts → List Entry → List Event → Step �
 IsStep x p script ev step.Memory q ew = (q ≡ p) × (ew ≡ ev)
 IsStep x p script ev (step.Fault k) q ew = (step_of x p script ev ≡ record { answer = step.Fault k; state = seen x p script ev }) × (q ≡ p) × (ew ≡ ev)
 IsStep x p script ev s q ew = step_of x p script ev ≡ record { answer = s; state = seen x q script ew }
+
+-- the run ends in this step, after which so many entries are taken
+unfoldable pub Ends : Fixed → Parts → List Entry → List Event → ℕ → Type 0
+Ends x p script ev n =
+    step_of x p script ev ≡ record { answer = step.Ended; state = seen x (moved_on n turn.End p) script (ev ++ event.End ∷ []) }

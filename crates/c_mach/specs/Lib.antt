@@ -1,9 +1,5 @@
 pub mod Applied
 pub mod Deciding
-pub mod Effects
-pub mod Lookups
 pub mod Moves
-pub mod Plans
-pub mod Scenes
+pub mod Turned
 pub mod Turns
-pub mod Views

@@ -18,16 +18,16 @@ use Rattle.c_state.specs.declared.state.Doing.TheVariants as doing
 use Rattle.c_state.specs.Objects.{answer, read_objs, NewResult, Gave, Raises, new_result, sure_result}
 use Rattle.c_state.specs.Reads.{Found, FoundFunction, NotFound, initializer_name}
 use Rattle.c_state.specs.Outside.{How, NewReference, Borrowed, SetsError, how}
-use Rattle.c_mach.specs.declared.parts.Standing.{Standing}
-use Rattle.c_mach.specs.declared.parts.Activation.{Activation}
-use Rattle.c_mach.specs.declared.parts.Effect.{Effect}
-use Rattle.c_mach.specs.declared.parts.Effect.TheVariants as effect
+use Rattle.c_look.specs.declared.parts.Standing.{Standing}
+use Rattle.c_look.specs.declared.parts.Activation.{Activation}
+use Rattle.c_plan.specs.declared.effects.Effect.{Effect}
+use Rattle.c_plan.specs.declared.effects.Effect.TheVariants as effect
 use Rattle.c_mach.specs.declared.parts.Delivery.{Delivery}
 use Rattle.c_mach.specs.declared.parts.Delivery.TheVariants as delivery
 use Rattle.c_mach.specs.declared.parts.Turn.{Turn}
 use Rattle.c_mach.specs.declared.parts.Turn.TheVariants as turn
-use Rattle.c_mach.specs.Views.{function_there, found_at, activated}
-use Rattle.c_mach.specs.Lookups.{standing_entered, standing_next}
+use Rattle.c_look.specs.Views.{function_there, found_at, activated}
+use Rattle.c_look.specs.Lookups.{standing_entered, standing_next}
 
 -- the parts of the state that the outside reads
 pub record Stage : Type 0 where

@@ -1,13 +1,14 @@
 //! Effects and turns, once nothing can fail: the memory is there before.
-ghost use Rattle.std.specs.Prelude.{◌≡◌, ◌∷◌, ◌++◌, [], ◌+◌, ◌<◌, ◌≤◌, suc, length, reverse, take, drop, Some, None, MatchOption, vec_len, vec_capacity};
-ghost use Rattle.std.specs.Option.{option_copied};
-ghost use Rattle.c_mach.specs.Effects.{course_after};
+ghost use Rattle.std.specs.Prelude.{◌≡◌, ◌∷◌, ◌++◌, [], ◌+◌, ◌<◌, ◌≤◌, length, reverse, Some, None, vec_len, vec_capacity};
+ghost use Rattle.c_plan.specs.Effects.{course_after};
 ghost use Rattle.c_state.specs.State.{put, put_to, put_spot, spots_at, set_spots};
-ghost use Rattle.c_mach.specs.Applied.{Parts, parts_of, Fixed, fixed, above, lent_to, on_last, at_line, stored, given, applied, effect_events, lends_of, answered_to, runs, delivered_in, moved_on, turn_events, last_of};
+ghost use Rattle.c_mach.specs.Applied.{parts_of, fixed, above, lent_to, on_last, stored, given, applied, effect_events, lends_of, answered_to, runs, delivered_in, moved_on, turn_events};
 
-use crate::operands::{same_place, same_variable};
-use crate::parts::{Activation, Core, Delivery, Effect, Turn};
-use crate::readings::converted;
+use c_look::operands::{same_place, same_variable};
+use c_look::parts::Activation;
+use c_plan::effects::Effect;
+use crate::parts::{Core, Delivery, Turn};
+use c_look::readings::converted;
 use c_state::{ApiRow, Cell, Course, Doing, Event, Obj, Op, Place, Spot, Value, Variable};
 use sqlite_items::Items;
 

@@ -2,15 +2,6 @@
 #![tactic(auto)]
 
 mod apply;
-mod copies;
-mod entering;
-mod lookups;
-mod objects;
-mod operands;
 mod outside;
 mod parts;
-mod plans;
-mod readings;
-mod scenes;
-mod statements;
 mod step;

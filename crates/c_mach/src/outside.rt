@@ -1,23 +1,22 @@
 //! The turn that the outside takes: it starts initialisations, takes entries, enters functions and answers operations.
-ghost use Rattle.std.specs.Prelude.{◌≡◌, ◌∷◌, [], ◌+◌, ◌^◌, ◌<◌, suc, pos, length, ℕ, Option, Some, None, IfOk, drop, slice_get};
+ghost use Rattle.std.specs.Prelude.{◌≡◌, ◌∷◌, [], ◌+◌, ◌^◌, ◌<◌, suc, pos, length, Option, Some, None, IfOk, drop};
 ghost use Rattle.std.specs.Option.{option_copied};
 ghost use Rattle.c_state.specs.declared.tree.CHead.{CHead};
 ghost use Rattle.c_state.specs.Objects.{read_obj, read_objs, answer, raised, unfit, fits_of, new_result, sure_result};
 ghost use Rattle.c_state.specs.Outside.{how};
-ghost use Rattle.c_state.specs.Reads.{NotFound, initializer_name};
-ghost use Rattle.c_mach.specs.Views.{found_at, function_there, activated};
-ghost use Rattle.c_mach.specs.Lookups.{standing_entered};
-ghost use Rattle.c_mach.specs.Turns.{go, living, is_found, fitting, rest_of, delivery_new, delivery_by, answer_turn, enter_turn, enter_else, enter_or, entry_turn, ask_go, top_entry, top_go, begin_there, begin_at, idle_go, doing_go, newest_go, failed_go, effect_go};
+ghost use Rattle.c_state.specs.Reads.{initializer_name};
+ghost use Rattle.c_look.specs.Views.{found_at, function_there, activated};
+ghost use Rattle.c_look.specs.Lookups.{standing_entered};
+ghost use Rattle.c_mach.specs.Turns.{living, is_found, fitting, delivery_new, delivery_by, answer_turn, enter_turn, enter_or, entry_turn, ask_go, top_entry, top_go, idle_go, doing_go, newest_go, failed_go, effect_go};
 ghost use Rattle.c_mach.specs.Moves.{stage_of, go_of};
 
-use crate::copies::{copy_bytes, copy_callee, copy_obj, copy_objs, with_first};
-use crate::entering::{Entrance, activate};
-use crate::lookups::{find_entered, find_initializer, function_there};
-use crate::parts::{Activation, Delivery, Effect, Standing, Turn};
-use c_state::{
-    Answer, ApiRow, Bytes, CFile, CFunction, CHead, Callee, Doing, Entered, Entry, Obj, Op, Spot,
-    Value, Variable,
-};
+use c_look::copies::{copy_bytes, copy_callee, copy_obj, copy_objs, with_first};
+use c_plan::entering::{Entrance, activate};
+use c_look::lookups::{find_entered, find_initializer, function_there};
+use c_look::parts::{Activation, Standing};
+use c_plan::effects::Effect;
+use crate::parts::{Delivery, Turn};
+use c_state::{Answer, ApiRow, Bytes, CFile, CFunction, CHead, Callee, Doing, Entered, Entry, Obj, Op, Spot, Value, Variable};
 use cy_base::OutOfMemory;
 use sqlite_items::Items;
 use std::alloc::Global;
@@ -362,7 +361,7 @@ fn begin_turn(stage: &Stage<'_>, standing: Standing, function: &CFunction) -> Tu
     ))
 }
 
-#[tactic(auto, using(crate::proofs::Searches::functions_within))]
+#[tactic(auto, using(c_look::proofs::Searches::functions_within))]
 /// The turn where no function runs: the next initialisation, if there is one.
 pub fn idle_go(stage: &Stage<'_>, script: &[Entry], taken: usize) -> Moved
     ensures { IfOk result (λ m. go_of script.now m ≡ idle_go (stage_of stage.now) (drop taken script.now)) }

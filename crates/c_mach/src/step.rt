@@ -1,17 +1,21 @@
 //! One step: what is decided while nothing is changed, and then what is changed while nothing can fail.
-ghost use Rattle.std.specs.Prelude.{◌≡◌, ◌++◌, ◌+◌, ◌<◌, ◌≤◌, MatchOption, IfOk, OnOk, IsTrue, drop, vec_len, vec_capacity};
+ghost use Rattle.std.specs.Prelude.{◌≡◌, ◌∷◌, [], ◌++◌, ◌+◌, ◌<◌, ◌≤◌, is_ok, if◌then◌else◌, MatchOption, IfOk, OnOk, IsTrue, List, drop, vec_len, vec_capacity};
 ghost use Rattle.std.specs.Option.{option_copied};
-ghost use Rattle.c_mach.specs.Views.{function_at};
-ghost use Rattle.c_mach.specs.Applied.{Parts, parts_of, Fixed, fixed, applied, effect_events, lends_of, moved_on, turn_events, last_of};
+ghost use Rattle.c_state.specs.declared.space.Entry.{Entry};
+ghost use Rattle.c_look.specs.Views.{function_at};
+ghost use Rattle.c_mach.specs.Applied.{parts_of, fixed, applied, effect_events, lends_of, moved_on, turn_events, last_of};
 ghost use Rattle.c_mach.specs.Turns.{effect_go};
-ghost use Rattle.c_mach.specs.Moves.{go_of};
-ghost use Rattle.c_mach.specs.Deciding.{lines_after, next_here, effect_here, scene_at, stage_at, is_resting, NoFault, finished, finished_events, IsDecided, IsStep};
+ghost use Rattle.c_mach.specs.Moves.{stage_of, go_of};
+ghost use Rattle.c_plan.specs.Running.{lines_after, next_here, effect_here};
+ghost use Rattle.c_mach.specs.Deciding.{scene_at, stage_at, is_resting, NoFault, finished, finished_events, IsDecided, IsFirst, Starts, Ends, IsStep};
 
 use crate::apply::{apply_effect, apply_turn, put};
 use crate::outside::{Move, Stage, effect_go, idle_go};
-use crate::parts::{Activation, Core, Effect, Turn};
-use crate::scenes::Scene;
-use crate::statements::plan_here;
+use c_look::parts::Activation;
+use c_plan::effects::Effect;
+use crate::parts::{Core, Turn};
+use c_plan::scenes::Scene;
+use c_plan::statements::plan_here;
 use c_state::{Course, Entry, Event, FaultKind, Step};
 use cy_base::OutOfMemory;
 
@@ -47,15 +51,7 @@ fn decide(
         caller,
     };
     let planned = plan_here(&scene)?;
-    let stage = Stage {
-        alloc: core.alloc,
-        files: core.files.as_slice(),
-        places: core.places.as_slice(),
-        lock: core.lock,
-        instances: core.instances,
-        views: core.views,
-        begun,
-    };
+    let stage = stage(core, begun);
     let next = effect_go(
         &stage,
         here.own.as_slice(),
@@ -69,6 +65,21 @@ fn decide(
         effect: planned.effect,
         next,
     })
+}
+
+/// What the outside reads, while so many files have begun.
+fn stage(core: &Core, begun: usize) -> Stage<'_>
+    ensures { stage_of result ≡ record (stage_at (fixed core.now) (parts_of core.now)) { begun = begun } }
+{
+    Stage {
+        alloc: core.alloc,
+        files: core.files.as_slice(),
+        places: core.places.as_slice(),
+        lock: core.lock,
+        instances: core.instances,
+        views: core.views,
+        begun,
+    }
 }
 
 /// The newest of the frames.
