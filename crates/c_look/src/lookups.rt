@@ -8,7 +8,10 @@ ghost use Rattle.c_look.specs.Lookups.{label_line, Lines, NoLine, next_line, is_
 
 use crate::operands::{find_module, find_spot};
 use crate::parts::{Standing, Wanted};
-use c_state::{Bytes, CFile, CFunction, CHead, CItem, CStmt, Callee, FunctionName, Line, MethodRow, Place, Spot, Value};
+use c_state::{
+    Bytes, CFile, CFunction, CHead, CItem, CStmt, Callee, FunctionName, Line, MethodRow, Place,
+    Spot, Value,
+};
 use sqlite_items::Items;
 
 /// The number of the line after a label.

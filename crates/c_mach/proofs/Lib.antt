@@ -1,5 +1,6 @@
 pub mod Calm
 pub mod Puts
+pub mod Runs
 pub mod Seen
 pub mod Settled
 pub mod Stepped

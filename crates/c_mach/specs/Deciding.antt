@@ -5,7 +5,6 @@ use Rattle.c_state.specs.declared.space.Event.{Event}
 use Rattle.c_state.specs.declared.space.Event.TheVariants as event
 use Rattle.c_state.specs.declared.state.Step.{Step}
 use Rattle.c_state.specs.declared.state.Step.TheVariants as step
-use Rattle.c_state.specs.declared.state.Doing.TheVariants as doing
 use Rattle.c_state.specs.declared.state.Course.{Course}
 use Rattle.c_state.specs.declared.state.Course.TheVariants as course
 use Rattle.c_state.specs.Machine.{settle, is_asking, Stepped, c_step}

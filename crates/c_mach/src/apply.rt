@@ -4,11 +4,11 @@ ghost use Rattle.c_plan.specs.Effects.{course_after};
 ghost use Rattle.c_state.specs.State.{put, put_to, put_spot, spots_at, set_spots};
 ghost use Rattle.c_mach.specs.Applied.{parts_of, fixed, above, lent_to, on_last, stored, given, applied, effect_events, lends_of, answered_to, runs, delivered_in, moved_on, turn_events};
 
+use crate::parts::{Core, Delivery, Turn};
 use c_look::operands::{same_place, same_variable};
 use c_look::parts::Activation;
-use c_plan::effects::Effect;
-use crate::parts::{Core, Delivery, Turn};
 use c_look::readings::converted;
+use c_plan::effects::Effect;
 use c_state::{ApiRow, Cell, Course, Doing, Event, Obj, Op, Place, Spot, Value, Variable};
 use sqlite_items::Items;
 

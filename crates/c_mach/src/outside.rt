@@ -10,13 +10,16 @@ ghost use Rattle.c_look.specs.Lookups.{standing_entered};
 ghost use Rattle.c_mach.specs.Turns.{living, is_found, fitting, delivery_new, delivery_by, answer_turn, enter_turn, enter_or, entry_turn, ask_go, top_entry, top_go, idle_go, doing_go, newest_go, failed_go, effect_go};
 ghost use Rattle.c_mach.specs.Moves.{stage_of, go_of};
 
+use crate::parts::{Delivery, Turn};
 use c_look::copies::{copy_bytes, copy_callee, copy_obj, copy_objs, with_first};
-use c_plan::entering::{Entrance, activate};
 use c_look::lookups::{find_entered, find_initializer, function_there};
 use c_look::parts::{Activation, Standing};
 use c_plan::effects::Effect;
-use crate::parts::{Delivery, Turn};
-use c_state::{Answer, ApiRow, Bytes, CFile, CFunction, CHead, Callee, Doing, Entered, Entry, Obj, Op, Spot, Value, Variable};
+use c_plan::entering::{Entrance, activate};
+use c_state::{
+    Answer, ApiRow, Bytes, CFile, CFunction, CHead, Callee, Doing, Entered, Entry, Obj, Op, Spot,
+    Value, Variable,
+};
 use cy_base::OutOfMemory;
 use sqlite_items::Items;
 use std::alloc::Global;

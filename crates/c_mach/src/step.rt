@@ -11,9 +11,9 @@ ghost use Rattle.c_mach.specs.Deciding.{scene_at, stage_at, is_resting, NoFault,
 
 use crate::apply::{apply_effect, apply_turn, put};
 use crate::outside::{Move, Stage, effect_go, idle_go};
+use crate::parts::{Core, Turn};
 use c_look::parts::Activation;
 use c_plan::effects::Effect;
-use crate::parts::{Core, Turn};
 use c_plan::scenes::Scene;
 use c_plan::statements::plan_here;
 use c_state::{Course, Entry, Event, FaultKind, Step};
@@ -232,6 +232,132 @@ fn go_on(core: &mut Core, script: &[Entry], events: &mut Vec<Event>) -> Step
         None => {
             complete(core, events, top, decision);
             Step::Went
+        }
+    }
+}
+
+/// The outside's move where no function runs.
+fn first_move(core: &Core, script: &[Entry]) -> Result<Move, OutOfMemory>
+    ensures { IfOk result (λ m. IsFirst (fixed core.now) (parts_of core.now) script.now m.taken m.turn) }
+{
+    let stage = stage(core, core.begun);
+    let first = idle_go(&stage, script, core.taken)?;
+    Ok(first)
+}
+
+// Drops what isn't begun after all.
+fn let_start_go(_event: Event, _frame: Activation) {}
+
+/// A step that begins with a frame where none runs, with its event.
+fn begin_with(
+    core: &mut Core,
+    script: &[Entry],
+    events: &mut Vec<Event>,
+    event: Event,
+    frame: Activation,
+    begun: usize,
+    taken: usize,
+) -> Step
+    requires goes { core.old.course ≡ Course.Goes }
+    requires empty { core.old.frames.items ≡ [] }
+    requires starts { Starts (fixed core.old) (parts_of core.old) script.now events.old.items event frame begun taken }
+    ensures step { IsStep (fixed core.old) (parts_of core.old) script.now events.old.items result (parts_of core.new) events.new.items }
+    ensures fixed { fixed core.new ≡ fixed core.old }
+    ensures rests { IsTrue (is_resting core.new.course (last_of core.new.frames.items)) }
+{
+    let Ok(decision) = prepare(core, &frame, script, events, begun, taken) else {
+        let_start_go(event, frame);
+        return Step::Memory;
+    };
+    match fault_of(&decision.effect) {
+        Some(fault) => {
+            let_go(decision);
+            let_start_go(event, frame);
+            Step::Fault(fault)
+        }
+        None => {
+            core.begun = begun;
+            core.taken = taken;
+            put(events, event);
+            complete(core, events, frame, decision);
+            Step::Went
+        }
+    }
+}
+
+/// Ends the run, once so many entries are taken.
+fn end(core: &mut Core, events: &mut Vec<Event>, taken: usize) -> Result<(), OutOfMemory>
+    ensures parts { parts_of core.new ≡ (if is_ok result then moved_on taken Turn.End (parts_of core.old) else parts_of core.old) }
+    ensures events { events.new.items ≡ (if is_ok result then events.old.items ++ Event.End ∷ [] else events.old.items) }
+    ensures fixed { fixed core.new ≡ fixed core.old }
+{
+    events.push(Event::End)?;
+    core.taken = taken;
+    core.course = Course::Ended;
+    Ok(())
+}
+
+/// The step in which the run ends, once so many entries are taken.
+fn end_run(core: &mut Core, events: &mut Vec<Event>, taken: usize) -> Step
+    requires { IsTrue (is_resting core.old.course (last_of core.old.frames.items)) }
+    ensures step { (script : List Entry) → Ends (fixed core.old) (parts_of core.old) script events.old.items taken → IsStep (fixed core.old) (parts_of core.old) script events.old.items result (parts_of core.new) events.new.items }
+    ensures fixed { fixed core.new ≡ fixed core.old }
+    ensures rests { IsTrue (is_resting core.new.course (last_of core.new.frames.items)) }
+{
+    match end(core, events, taken) {
+        Ok(()) => Step::Ended,
+        Err(_) => Step::Memory,
+    }
+}
+
+/// A step where no function runs.
+fn start(core: &mut Core, script: &[Entry], events: &mut Vec<Event>) -> Step
+    requires goes { core.old.course ≡ Course.Goes }
+    requires empty { core.old.frames.items ≡ [] }
+    ensures step { IsStep (fixed core.old) (parts_of core.old) script.now events.old.items result (parts_of core.new) events.new.items }
+    ensures fixed { fixed core.new ≡ fixed core.old }
+    ensures rests { IsTrue (is_resting core.new.course (last_of core.new.frames.items)) }
+{
+    let Ok(first) = first_move(core, script) else {
+        return Step::Memory;
+    };
+    let Move { turn, taken } = first;
+    match turn {
+        Turn::Begin(name, begun, frame) => {
+            begin_with(core, script, events, Event::Init(name), frame, begun, taken)
+        }
+        Turn::Enter(callee, args, frame) => {
+            let begun = core.begun;
+            let event = Event::Enter(callee, args);
+            begin_with(core, script, events, event, frame, begun, taken)
+        }
+        Turn::End => end_run(core, events, taken),
+        Turn::Nothing => unreachable!(),
+        Turn::Stop => unreachable!(),
+        Turn::Answer(_, _, _) => unreachable!(),
+    }
+}
+
+/// One step.
+pub fn step(core: &mut Core, script: &[Entry], events: &mut Vec<Event>) -> Step
+    requires { IsTrue (is_resting core.old.course (last_of core.old.frames.items)) }
+    ensures step { IsStep (fixed core.old) (parts_of core.old) script.now events.old.items result (parts_of core.new) events.new.items }
+    ensures fixed { fixed core.new ≡ fixed core.old }
+    ensures rests { IsTrue (is_resting core.new.course (last_of core.new.frames.items)) }
+{
+    match core.course {
+        Course::Ended => Step::Ended,
+        Course::Stopped => Step::Stopped,
+        Course::Failed => {
+            let taken = core.taken;
+            end_run(core, events, taken)
+        }
+        Course::Goes => {
+            if core.frames.is_empty() {
+                start(core, script, events)
+            } else {
+                go_on(core, script, events)
+            }
         }
     }
 }

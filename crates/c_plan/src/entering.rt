@@ -5,14 +5,17 @@ ghost use Rattle.c_look.specs.Views.{activated};
 ghost use Rattle.c_plan.specs.Plans.{loans_in, checked, after, call_of, call_plan};
 ghost use Rattle.c_look.specs.Readings.{all_held_in};
 
+use crate::effects::Effect;
 use c_look::copies::copy_value;
 use c_look::lookups::function_there;
 use c_look::parts::{Activation, Standing};
-use crate::effects::Effect;
 use c_look::readings::{
     all_held, all_set, converted, fits, kind_of, lends, passed, reads_module_variable, receives,
 };
-use c_state::{CFile, CFunction, CHead, CValue, Cell, Declaration, Doing, Entered, FaultKind, InitialValue, Kind, Obj, Parameter, Reading, Spot, Value, Variable};
+use c_state::{
+    CFile, CFunction, CHead, CValue, Cell, Declaration, Doing, Entered, FaultKind, InitialValue,
+    Kind, Obj, Parameter, Reading, Spot, Value, Variable,
+};
 use cy_base::OutOfMemory;
 use sqlite_items::Items;
 use std::alloc::Global;

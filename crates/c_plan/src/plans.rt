@@ -7,12 +7,19 @@ ghost use Rattle.c_state.specs.Reads.{passed, fits};
 ghost use Rattle.c_state.specs.Statements.{takes, object_of, text_of, definition_of, binary_op, module_op, dict_op, import_op, fail_op, op_of, error_fault, moved_out, owns_just, owns_none};
 ghost use Rattle.c_plan.specs.Plans.{checked, after, write_fault, write_plan, unowned, store_fault, own_after_store, store_plan, row_accepts, row_fault, ask_fault, row_plan, counted_fault, gain_of, gain_plan, loss_of, loss_plan, branch_fault, taken_line, branch_plan, jump_plan, return_fault, hand_by, hand_plan, object_plan, null_plan, null_with, result_plan, return_plan};
 
+use crate::effects::Effect;
 use c_look::copies::{copy_bytes, copy_obj, copy_objs, copy_op, copy_value, with_first};
 use c_look::objects::{has, lose};
 use c_look::parts::Activation;
-use crate::effects::Effect;
-use c_look::readings::{all_held, all_set, any_null, by_comparison, comparable, converted, converts, fits, is_held, is_null, is_set, lends, may_read, may_store, may_write, owns_just, owns_none, passed, receives, same_lock, same_value};
-use c_state::{ApiRow, BinaryOp, Bytes, CValue, Cell, Comparison, Doing, Entered, Event, FaultKind, Kind, Obj, Op, Place, Reading, Spot, Value, Variable};
+use c_look::readings::{
+    all_held, all_set, any_null, by_comparison, comparable, converted, converts, fits, is_held,
+    is_null, is_set, lends, may_read, may_store, may_write, owns_just, owns_none, passed, receives,
+    same_lock, same_value,
+};
+use c_state::{
+    ApiRow, BinaryOp, Bytes, CValue, Cell, Comparison, Doing, Entered, Event, FaultKind, Kind, Obj,
+    Op, Place, Reading, Spot, Value, Variable,
+};
 use cy_base::OutOfMemory;
 use sqlite_items::Items;
 use std::alloc::Global;

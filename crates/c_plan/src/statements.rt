@@ -9,14 +9,22 @@ ghost use Rattle.c_plan.specs.Running.{running_effect, effect_here, lines_after,
 ghost use Rattle.c_plan.specs.Scenes.{scene_of};
 ghost use Rattle.c_state.specs.declared.tree.CStmt.TheVariants as stmt;
 
+use crate::effects::Effect;
 use crate::entering::{call_plan, result_kind};
-use c_look::lookups::{find_function, find_label, find_statement, function_there, items_at, spots_at};
+use crate::plans::{
+    Side, branch_plan, gain_plan, jump_plan, loss_plan, return_plan, row_plan, store_plan,
+    write_plan,
+};
+use crate::scenes::Scene;
+use c_look::lookups::{
+    find_function, find_label, find_statement, function_there, items_at, spots_at,
+};
 use c_look::operands::{find_cell, find_spot, operand, operands};
 use c_look::parts::Activation;
-use crate::effects::Effect;
-use crate::plans::{Side, branch_plan, gain_plan, jump_plan, loss_plan, return_plan, row_plan, store_plan, write_plan};
-use crate::scenes::Scene;
-use c_state::{ApiRow, CFile, CStmt, CValue, Comparison, Doing, FaultKind, FunctionName, Kind, Line, Reading, Target, Variable};
+use c_state::{
+    ApiRow, CFile, CStmt, CValue, Comparison, Doing, FaultKind, FunctionName, Kind, Line, Reading,
+    Target, Variable,
+};
 use cy_base::OutOfMemory;
 use sqlite_items::Items;
 
