@@ -1,0 +1,17 @@
+use c_look::parts::Activation;
+use c_state::{CFile, Obj, Spot};
+use sqlite_items::Items;
+use std::alloc::Global;
+
+/// The parts of the machine that a statement reads: its frame, and the one that called it.
+#[derive(Clone, Copy)]
+pub struct Scene<'a> {
+    pub alloc: Global,
+    pub files: &'a [CFile],
+    pub places: &'a [Items<Spot>],
+    pub lock: bool,
+    pub error: &'a Option<Obj>,
+    pub loans: &'a [Obj],
+    pub here: &'a Activation,
+    pub caller: Option<&'a Activation>,
+}

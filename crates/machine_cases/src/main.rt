@@ -1,0 +1,70 @@
+//! Runs the machine over the C of thin files and over C with one change, and prints each trace, how the run came to
+//! its end, which one more step doesn't change, and after how many steps. The cases stand in the files that the words
+//! name, and the expected lines in the file `stdout`. A case is a line: a name, a change, a source and a script, with
+//! `|` between them.
+#![tactic(auto)]
+
+mod changes;
+mod read;
+mod show;
+
+use anyhow::{Result, anyhow};
+use c_mach::Machine;
+use c_state::{Entry, Step};
+use std::alloc::Global;
+use std::rt::Runtime;
+use std::{env, fs};
+use thin_sound::thin;
+
+// More steps than any case takes.
+const MOST_STEPS: u64 = 1_000;
+
+fn finished<R: Runtime + AllocGlobal>(
+    rt: &R,
+    machine: &mut Machine,
+    script: &[Entry],
+) -> Result<()> {
+    let mut events = Vec::new(rt.alloc());
+    let mut steps: u64 = 0;
+    let mut answer = Step::Went;
+    for _ in 0..MOST_STEPS {
+        answer = machine.step(script, &mut events);
+        if answer != Step::Went {
+            break;
+        }
+        steps = steps.saturating_add(1);
+    }
+    let made = events.len();
+    if machine.step(script, &mut events) != answer || events.len() != made {
+        println!(rt; "another step after the last")?;
+    }
+    for event in events.iter() {
+        println!(rt; "{}", show::event(rt.alloc(), event)?)?;
+    }
+    println!(rt; "{}", show::end(rt.alloc(), answer, steps)?)?;
+    Ok(())
+}
+
+fn run_case<R: Runtime + AllocGlobal>(rt: &R, line: &str) -> Result<()> {
+    let mut parts = line.split('|');
+    let name = parts.next().ok_or(anyhow!("no name"))?;
+    let change = parts.next().ok_or(anyhow!("no change"))?;
+    let source = parts.next().ok_or(anyhow!("no source"))?;
+    let script = read::script(rt.alloc(), parts.next().ok_or(anyhow!("no script"))?)?;
+    println!(rt; "== {name}")?;
+    let text = format!(in rt.alloc(); "{source}\n")?;
+    let files = thin(rt.alloc(), b"m", text.as_bytes())?.ok_or(anyhow!("not thin"))?;
+    let files = changes::changed(rt.alloc(), files, change)?;
+    let mut machine = Machine::new(rt.alloc(), files)?;
+    finished(rt, &mut machine, script.as_slice())
+}
+
+fn main(rt: HostRuntime) -> Result<()> {
+    for name in env::args(&rt)?.skip(1) {
+        let text = fs::read_to_string(&rt, name.as_str())?;
+        for line in text.lines() {
+            run_case(&rt, line)?;
+        }
+    }
+    Ok(())
+}
