@@ -15,6 +15,8 @@ abbrev pub below : Bool → ℕ → Level → Reader Token Expr
 below true n = reads n
 below false n = λ l ts. bad unexpected ts
 
+-- What reads the nested expressions, as a function value: where something may be opened it may be called, and it reads as
+-- the reader of the grammar does.
 pub record Nests (here : Bool) (room : ℕ) (pre : Global → MutBor (List Token) → ℕ → Level → Type 0)
     (post : Global → MutBor (List Token) → ℕ → Level → Result Expr Halt → MutBor (List Token) → Type 0) : Type 0 where
   pub callable : here ≡ true → (alloc : Global) (old : MutBor (List Token)) (l : Level) → pre alloc old room l

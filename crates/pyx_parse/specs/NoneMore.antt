@@ -8,6 +8,7 @@ use Rattle.token_input.specs.declared.halt.Halt.TheVariants.{Memory}
 use Rattle.expr_grammar.specs.Grammar.{argument_rule}
 use Rattle.token_input.specs.Reads.{fault_of}
 
+-- The outcome is no item and whether a separator stands, or the fault; it takes no memory.
 abbrev pub NoneMore : {A : Type 0} → Outcome Token (Row A) → Result Bool Halt → List Token → Type 0
 NoneMore outcome (Ok mark) new = outcome ≡ did ([], mark) new
 NoneMore outcome (Err e) new = (e ≢ Memory) × (outcome ≡ bad (fault_of e) new)

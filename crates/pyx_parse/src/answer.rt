@@ -3,7 +3,8 @@ ghost use Rattle.cy_base.specs.declared.place.Refusal.{Refusal};
 ghost use Rattle.cy_tree.specs.declared.expr.Expr.{Expr as Tree};
 ghost use Rattle.expr_grammar.specs.Grammar.{Spells};
 ghost use Rattle.token_input.specs.Ended.{is_ended};
-ghost use Rattle.pyx_parse.specs.Answer.{expr_form, target_form, IsTree, IsFirstBreach};
+ghost use Rattle.token_input.specs.Answer.{IsFirstBreach};
+ghost use Rattle.pyx_parse.specs.Answer.{expr_form, target_form, IsTree};
 
 use crate::reading::read;
 use cy_base::{FileId, Stop};
@@ -39,8 +40,8 @@ fn form(
     ensures tree { IfOk result (λ r. IsTree (Spells (100 - depth) level) tokens.now.list at r.0 r.1) }
     ensures every_tree { (tree : Tree) (next : ℕ) → IsTree (Spells (100 - depth) level) tokens.now.list at tree next
         → (result ≡ Ok (tree, next)) ⊎ (result ≡ Err Stop.Memory) }
-    ensures refused { (refused : Refusal) → result ≡ Err (Stop.Refused refused) → IsFirstBreach (Spells (100 - depth) level) file tokens.now.list at refused }
-    ensures every_breach { (refused : Refusal) → IsFirstBreach (Spells (100 - depth) level) file tokens.now.list at refused
+    ensures refused { (refused : Refusal) → result ≡ Err (Stop.Refused refused) → IsFirstBreach Tree (Spells (100 - depth) level) file (drop at tokens.now.list) refused }
+    ensures every_breach { (refused : Refusal) → IsFirstBreach Tree (Spells (100 - depth) level) file (drop at tokens.now.list) refused
         → (result ≡ Err (Stop.Refused refused)) ⊎ (result ≡ Err Stop.Memory) }
 {
     let rest = from(tokens, at);
@@ -73,8 +74,8 @@ pub fn expression(
     ensures tree { IfOk result (λ r. IsTree (expr_form depth) tokens.now.list at r.0 r.1) }
     ensures every_tree { (tree : Tree) (next : ℕ) → IsTree (expr_form depth) tokens.now.list at tree next
         → (result ≡ Ok (tree, next)) ⊎ (result ≡ Err Stop.Memory) }
-    ensures refused { (refused : Refusal) → result ≡ Err (Stop.Refused refused) → IsFirstBreach (expr_form depth) file tokens.now.list at refused }
-    ensures every_breach { (refused : Refusal) → IsFirstBreach (expr_form depth) file tokens.now.list at refused
+    ensures refused { (refused : Refusal) → result ≡ Err (Stop.Refused refused) → IsFirstBreach Tree (expr_form depth) file (drop at tokens.now.list) refused }
+    ensures every_breach { (refused : Refusal) → IsFirstBreach Tree (expr_form depth) file (drop at tokens.now.list) refused
         → (result ≡ Err (Stop.Refused refused)) ⊎ (result ≡ Err Stop.Memory) }
 {
     form(alloc, file, tokens, at, depth, Level::Expr)
@@ -94,8 +95,8 @@ pub fn target(
     ensures tree { IfOk result (λ r. IsTree (target_form depth) tokens.now.list at r.0 r.1) }
     ensures every_tree { (tree : Tree) (next : ℕ) → IsTree (target_form depth) tokens.now.list at tree next
         → (result ≡ Ok (tree, next)) ⊎ (result ≡ Err Stop.Memory) }
-    ensures refused { (refused : Refusal) → result ≡ Err (Stop.Refused refused) → IsFirstBreach (target_form depth) file tokens.now.list at refused }
-    ensures every_breach { (refused : Refusal) → IsFirstBreach (target_form depth) file tokens.now.list at refused
+    ensures refused { (refused : Refusal) → result ≡ Err (Stop.Refused refused) → IsFirstBreach Tree (target_form depth) file (drop at tokens.now.list) refused }
+    ensures every_breach { (refused : Refusal) → IsFirstBreach Tree (target_form depth) file (drop at tokens.now.list) refused
         → (result ≡ Err (Stop.Refused refused)) ⊎ (result ≡ Err Stop.Memory) }
 {
     form(alloc, file, tokens, at, depth, Level::Postfix)

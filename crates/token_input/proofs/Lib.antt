@@ -1,4 +1,5 @@
+pub mod Alone
 pub mod Failing
 pub mod Last
-pub mod Alone
 pub mod Once
+pub mod Stops

@@ -6,6 +6,7 @@ use Rattle.token_input.specs.declared.words.ExprSet.{ExprSet}
 use Rattle.token_input.specs.declared.words.ExprSet.TheVariants as set
 use Rattle.expr_grammar.specs.Words.{is_name, is_plain_name, is_int, is_str, is_none, is_true, is_false, is_if, is_else, is_or, is_and, is_not, is_is, is_in, is_const, is_dot, is_comma, is_colon, is_question_mark, is_less, is_greater, is_open_parenthesis, is_close_parenthesis, is_open_bracket, is_close_bracket, is_open_brace, is_close_brace, is_bar, is_caret, is_ampersand, is_shift, is_sum, is_term, is_prefix, is_order, is_signed, is_unsigned, is_char, is_short, is_int_word, is_long, is_lone, begins_expr, begins_number, begins_cop, begins_index, trails, opens}
 
+-- the classes of a set
 abbrev pub has : ExprSet → Classes
 has set.Name = is_name
 has set.PlainName = is_plain_name

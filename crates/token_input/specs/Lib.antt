@@ -1,3 +1,4 @@
+pub mod Answer
 pub mod Ended
 pub mod Has
 pub mod Reads

@@ -11,6 +11,7 @@ use Rattle.token_input.specs.declared.halt.Halt.{Halt}
 use Rattle.token_input.specs.declared.halt.Halt.TheVariants.{Unexpected, Limit, Memory}
 use Rattle.token_input.specs.declared.input.Taken.{Taken}
 
+-- the fault of a halt; want of memory is none
 abbrev pub fault_of : Halt → Fault
 fault_of Unexpected = unexpected
 fault_of (Limit n) = limit n

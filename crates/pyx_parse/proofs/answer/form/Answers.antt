@@ -5,7 +5,10 @@ use Rattle.forms.specs.Readers.{did, bad}
 use Rattle.token_input.specs.declared.halt.Halt.TheVariants.{Memory}
 use Rattle.token_input.specs.Reads.{fault_of}
 use Rattle.expr_grammar.specs.Reading.{reads}
-use Rattle.pyx_parse.proofs.Whole.{in_err, no_more, is_tree, the_tree, no_breach, stop_tree, stop_refused, stop_breach}
+use Rattle.cy_tree.specs.declared.expr.Expr.{Expr}
+use Rattle.expr_grammar.specs.Grammar.{Spells}
+use Rattle.token_input.proofs.Stops.{in_err, no_breach, stop_found, stop_refused, stop_breach}
+use Rattle.pyx_parse.proofs.Whole.{no_more, is_tree, the_tree, read_answer}
 use Rattle.pyx_parse.proofs.answer.form.Goals as goal
 
 pub number-requires : goal.number-requires
@@ -29,21 +32,21 @@ returns-in-Ok-clause-every_tree c = λ other m t.
 pub returns-in-Ok-clause-every_breach : goal.returns-in-Ok-clause-every_breach
 returns-in-Ok-clause-every_breach c = λ refused b.
     let h : reads (100 - c.args.depth) c.args.level (drop c.args.at c.args.tokens.now.list) ≡ did c.in-Ok.tree c.read.new.input = cc c.in-Ok.ensures in
-    absurd (no_breach _ _ _ _ _ _ _ _ h b)
+    absurd (no_breach Expr (Spells (100 - c.args.depth) c.args.level) (drop c.args.at c.args.tokens.now.list) (reads (100 - c.args.depth) c.args.level (drop c.args.at c.args.tokens.now.list)) (read_answer (100 - c.args.depth) c.args.level c.args.tokens.now.list c.args.at) _ _ _ _ h b)
 
 pub returns-clause-every_tree : goal.returns-clause-every_tree
 returns-clause-every_tree c = λ tree n t.
     let h : (c.in-Err.halt ≢ Memory) → reads (100 - c.args.depth) c.args.level (drop c.args.at c.args.tokens.now.list) ≡ bad (fault_of c.in-Err.halt) c.read.new.input = λ k. let f = c.in-Err.ensures k in cc in
-    let e = stop_tree _ _ _ _ _ _ _ _ _ _ h c.stop.ensures t in
+    let e = stop_found Expr (Spells (100 - c.args.depth) c.args.level) (drop c.args.at c.args.tokens.now.list) (reads (100 - c.args.depth) c.args.level (drop c.args.at c.args.tokens.now.list)) (read_answer (100 - c.args.depth) c.args.level c.args.tokens.now.list c.args.at) _ _ _ _ _ _ h c.stop.ensures t.found in
     inr (ap Err e)
 
 pub returns-clause-refused : goal.returns-clause-refused
 returns-clause-refused c = λ refused e.
     let h : (c.in-Err.halt ≢ Memory) → reads (100 - c.args.depth) c.args.level (drop c.args.at c.args.tokens.now.list) ≡ bad (fault_of c.in-Err.halt) c.read.new.input = λ k. let f = c.in-Err.ensures k in cc in
     let f : c.stop.result ≡ Stop.Refused refused = cc in
-    stop_refused _ _ _ _ _ _ _ _ _ h c.stop.ensures f
+    stop_refused Expr (Spells (100 - c.args.depth) c.args.level) (drop c.args.at c.args.tokens.now.list) (reads (100 - c.args.depth) c.args.level (drop c.args.at c.args.tokens.now.list)) (read_answer (100 - c.args.depth) c.args.level c.args.tokens.now.list c.args.at) _ _ _ _ _ h c.stop.ensures f
 
 pub returns-clause-every_breach : goal.returns-clause-every_breach
 returns-clause-every_breach c = λ refused b.
     let h : (c.in-Err.halt ≢ Memory) → reads (100 - c.args.depth) c.args.level (drop c.args.at c.args.tokens.now.list) ≡ bad (fault_of c.in-Err.halt) c.read.new.input = λ k. let f = c.in-Err.ensures k in cc in
-    in_err (stop_breach _ _ _ _ _ _ _ _ _ h c.stop.ensures b)
+    in_err (stop_breach Expr (Spells (100 - c.args.depth) c.args.level) (drop c.args.at c.args.tokens.now.list) (reads (100 - c.args.depth) c.args.level (drop c.args.at c.args.tokens.now.list)) (read_answer (100 - c.args.depth) c.args.level c.args.tokens.now.list c.args.at) _ _ _ _ _ h c.stop.ensures b)
