@@ -1,1 +1,4 @@
 pub mod Definite
+pub mod Assign
+pub mod Deeper
+pub mod Valued

@@ -1,1 +1,3 @@
 pub mod Has
+pub mod Below
+pub mod Parts

@@ -1,0 +1,2 @@
+pub mod NoneMore
+pub mod Answer
