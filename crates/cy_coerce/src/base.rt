@@ -20,7 +20,7 @@ fn kind_of(set: &NamedSet, number: u32, name: &Ident) -> Option<NameKind>
     ensures { result ≡ kind_of set.now number name.now }
 {
     let scope = at(set.scopes.as_slice(), number as usize)?;
-    scope.names.get(&name.text).copied()
+    scope.names.get(name.text.bytes()).copied()
 }
 
 fn kind_through(set: &NamedSet, outer: Option<NameKind>, name: &Ident) -> Option<NameKind>

@@ -16,6 +16,10 @@ fn class_name(alloc: Global, number: u32) -> Result<Text, OutOfMemory> {
     Text::from_str(alloc, text.as_str())
 }
 
+fn key(alloc: Global, name: &Text) -> Result<Vec<u8>, OutOfMemory> {
+    Ok(Vec::from_slice(alloc, name.bytes())?)
+}
+
 fn named(alloc: Global, number: u32) -> Result<Ident, OutOfMemory> {
     Ok(Ident {
         at: 0,
@@ -63,7 +67,7 @@ fn chain_scope(alloc: Global) -> Result<Scope, OutOfMemory> {
     let mut names = IndexMap::new(alloc);
     for index in 0..33u32 {
         let id = ClassId { module: 0, index };
-        names.insert(class_name(alloc, index)?, NameKind::Class(id))?;
+        names.insert(key(alloc, &class_name(alloc, index)?)?, NameKind::Class(id))?;
     }
     Ok(Scope { module: 0, names })
 }
@@ -75,8 +79,8 @@ fn user_scope(alloc: Global) -> Result<Scope, OutOfMemory> {
         index: 0,
     };
     let mut names = IndexMap::new(alloc);
-    names.insert(Text::from_str(alloc, "chain")?, NameKind::Module(0))?;
-    names.insert(Text::from_str(alloc, "D")?, NameKind::Class(id))?;
+    names.insert(Vec::from_slice(alloc, b"chain")?, NameKind::Module(0))?;
+    names.insert(Vec::from_slice(alloc, b"D")?, NameKind::Class(id))?;
     Ok(Scope { module: 1, names })
 }
 

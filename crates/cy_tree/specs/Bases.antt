@@ -2,7 +2,7 @@
 use Rattle.std.specs.Prelude.{ℕ, zero, suc, Bool, false, if◌then◌else◌, List, [], ◌∷◌, Option, Some, None, slice_get, nat_eq}
 use Rattle.std.specs.Str.{bytes_eq}
 use Rattle.std.specs.List.{list_any}
-use Rattle.indexmap.specs.IndexMap.{get}
+use Rattle.indexmap.specs.IndexMap.{get_by}
 use Rattle.cy_tree.specs.declared.decl.Class.{Class}
 use Rattle.cy_tree.specs.declared.decl.ClassBase.{ClassBase}
 use Rattle.cy_tree.specs.declared.decl.ClassBase.TheVariants as base
@@ -30,7 +30,7 @@ class_of set id = class_in_module set (slice_get set.set.order id.module) id.ind
 
 abbrev pub kind_in : Option Scope → Ident → Option NameKind
 kind_in None name = None
-kind_in (Some scope) name = get bytes_eq scope.names name.text
+kind_in (Some scope) name = get_by (λ k. bytes_eq name.text k.items) scope.names
 
 -- what a name means among those that a module declares
 abbrev pub kind_of : NamedSet → ℕ → Ident → Option NameKind

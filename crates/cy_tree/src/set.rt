@@ -53,7 +53,7 @@ pub struct SourceSet {
 #[derive(Drop)]
 pub struct Scope {
     pub module: u32,
-    pub names: IndexMap<Text, NameKind>,
+    pub names: IndexMap<Vec<u8>, NameKind>,
 }
 
 /// A set with its scopes in the order of their numbers.
