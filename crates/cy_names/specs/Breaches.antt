@@ -1,6 +1,6 @@
 -- The rules on names, and where they are broken (Cython documentation, "Language Basics", "Sharing Declarations Between
 -- Cython Modules"; the project's own). An offset is the first byte of the name that is spoken of.
-use Rattle.std.specs.Prelude.{◌≡◌, ◌<◌, ◌≤◌, ◌⊎◌, ℕ, Bool, true, false, not, ◌||◌, if◌then◌else◌, List, [], ◌∷◌, ◌++◌, Option, Some, None, map, codes}
+use Rattle.std.specs.Prelude.{◌≡◌, ◌<◌, ◌≤◌, ◌⊎◌, ℕ, Bool, true, false, not, ◌||◌, if◌then◌else◌, List, [], ◌∷◌, ◌++◌, Option, Some, None, is_none, map, nat_eq, codes}
 use Rattle.std.specs.List.{flat_map, list_any, IsAmong}
 use Rattle.std.specs.Str.{bytes_eq}
 use Rattle.cy_base.specs.declared.place.Phase.TheVariants as phase
@@ -104,19 +104,20 @@ abbrev pub is_class : Option NameKind → Bool
 is_class (Some (kind.Class id)) = true
 is_class _ = false
 
-abbrev pub module_number_of : SourceSet → Option NameKind → Option Module
-module_number_of set (Some (kind.Module k)) = module_at (modules set) k
-module_number_of set _ = None
-  where
-    module_at : List Module → ℕ → Option Module
-    module_at [] k = None
-    module_at (m ∷ ms) k = if nat_eq m.number k then Some m else module_at ms k
+abbrev pub module_at : List Module → ℕ → Option Module
+module_at [] k = None
+module_at (m ∷ ms) k = if nat_eq m.number k then Some m else module_at ms k
+
+-- the module that a name means, if it means one
+abbrev pub module_of : SourceSet → Option NameKind → Option Module
+module_of set (Some (kind.Module k)) = module_at (modules set) k
+module_of set _ = None
 
 -- `object` is always a type; else a class, or a class that the `.pxd` of a cimported module declares
 abbrev pub names_type : SourceSet → (List ℕ → Option NameKind) → TypeName → Bool
 names_type set kinds (type.Number words) = true
 names_type set kinds (type.Named i) = bytes_eq i.text (codes "object") || is_class (kinds i.text)
-names_type set kinds (type.Member outer i) = is_class (shared_in set (module_number_of set (kinds outer.text)) i.text)
+names_type set kinds (type.Member outer i) = is_class (shared_in set (module_of set (kinds outer.text)) i.text)
 
 abbrev pub type_ident : TypeName → List Ident
 type_ident (type.Number words) = []
@@ -200,10 +201,6 @@ function_globals f =
 
 abbrev pub lacking : SourceSet → Ident → ImportItem → List Breach
 lacking set outer i = if is_none (shared_in set (module_named set outer.text) i.name.text) then breaks 5 i.name ∷ [] else []
-  where
-    is_none : Option NameKind → Bool
-    is_none None = true
-    is_none (Some k) = false
 
 abbrev pub cimport_lacks : SourceSet → Cimport → List Breach
 cimport_lacks set (cimport.Module at i) = []

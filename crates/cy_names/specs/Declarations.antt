@@ -96,9 +96,9 @@ abbrev pub declared_from : (Cimport → List Declaration) → ℕ → ℕ → �
 declared_from cimports m c f v [] = []
 declared_from cimports m c f v (top.Cimport x ∷ ts) = cimports x ++ declared_from cimports m c f v ts
 declared_from cimports m c f v (top.Class x ∷ ts) =
-    declares x.name (kind.Class (record { module = m; index = c })) ∷ declared_from cimports m (suc c) (f + length (functions_of (top.Class x))) v ts
+    declares x.name (kind.Class (record { «module» = m; index = c })) ∷ declared_from cimports m (suc c) (f + length (functions_of (top.Class x))) v ts
 declared_from cimports m c f v (top.Function x ∷ ts) =
-    declares x.heading.name (kind.CFunction (record { module = m; index = f })) ∷ declared_from cimports m c (suc f) v ts
+    declares x.heading.name (kind.CFunction (record { «module» = m; index = f })) ∷ declared_from cimports m c (suc f) v ts
 declared_from cimports m c f v (top.Variables x ∷ ts) =
     variables_from v (map (λ d. d.name) x.names) ++ declared_from cimports m c f (v + length x.names) ts
 declared_from cimports m c f v (top.Def x ∷ ts) = declares x.name kind.Global ∷ declared_from cimports m c (suc f) v ts

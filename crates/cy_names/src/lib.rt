@@ -1,6 +1,6 @@
 //! What names mean: the scopes of a set's modules and functions, or the first rule on names that it breaks.
 #![tactic(auto)]
 
-mod resolve;
+mod lookup;
 
-pub use resolve::resolve;
+pub use lookup::resolve;
