@@ -1,4 +1,4 @@
--- What expressions and statements say of names, in text order (Python language reference, 4.2.1, "Binding of names";
+-- What expressions and statements say of names: what a node says itself, then what the nodes inside it say (Python language reference, 4.2.1, "Binding of names";
 -- Cython documentation, "Language Basics").
 use Rattle.std.specs.Prelude.{List, [], ◌∷◌, ◌++◌, Option, Some, None, map}
 use Rattle.std.specs.List.{flat_map}
@@ -84,13 +84,12 @@ abbrev pub name_of : Expr-F Expr Index Part → List Ident
 name_of (Expr-F.Name i) = i ∷ []
 name_of _ = []
 
--- a target of an assignment or a `for`
+-- a target of an assignment or a `for`, and what `del` unbinds, where it is a NAME
 abbrev pub target : Expr → List Mention
-target e = map Target (name_of (out-Expr e)) ++ expr_mentions e
+target e = map Target (name_of (out-Expr e))
 
--- what `del` unbinds
 abbrev pub unbound : Expr → List Mention
-unbound e = map Bound (name_of (out-Expr e)) ++ expr_mentions e
+unbound e = map Bound (name_of (out-Expr e))
 
 -- the name that an import binds
 abbrev pub alias_or : Option Ident → Ident → Ident
@@ -104,24 +103,36 @@ abbrev pub type_mentions : Option TypeNode → List Mention
 type_mentions None = []
 type_mentions (Some t) = TypeUse t.name ∷ []
 
+-- what a simple statement says itself
+abbrev pub simple_own : Simple → List Mention
+simple_own (simple.Del at xs) = flat_map unbound xs
+simple_own (simple.Global at names) = map Globals names
+simple_own (simple.Import at items) = map imported items
+simple_own (simple.FromImport at outer items) = map imported items
+simple_own (simple.Cdef at kind names) = type_mentions kind
+simple_own (simple.Augmented x op at value) = target x
+simple_own (simple.Assign targets value) = flat_map target targets
+simple_own _ = []
+
 abbrev pub declared_mentions : Declared → List Mention
 declared_mentions d = Declares d.name ∷ maybe_mentions d.value
 
+-- and what the expressions in it say
+abbrev pub simple_inside : Simple → List Mention
+simple_inside (simple.ReturnNode at value) = maybe_mentions value
+simple_inside (simple.Raise at value) = maybe_mentions value
+simple_inside (simple.Del at xs) = all_of (map expr_mentions xs)
+simple_inside (simple.Cdef at kind names) = all_of (map declared_mentions names)
+simple_inside (simple.Expression x) = expr_mentions x
+simple_inside (simple.Augmented x op at value) = expr_mentions x ++ expr_mentions value
+simple_inside (simple.Assign targets value) = all_of (map expr_mentions targets) ++ expr_mentions value
+simple_inside _ = []
+
 abbrev pub simple_mentions : Simple → List Mention
-simple_mentions (simple.ReturnNode at value) = maybe_mentions value
-simple_mentions (simple.Raise at value) = maybe_mentions value
-simple_mentions (simple.Del at xs) = flat_map unbound xs
-simple_mentions (simple.Global at names) = map Globals names
-simple_mentions (simple.Import at items) = map imported items
-simple_mentions (simple.FromImport at outer items) = map imported items
-simple_mentions (simple.Cdef at kind names) = type_mentions kind ++ flat_map declared_mentions names
-simple_mentions (simple.Expression x) = expr_mentions x
-simple_mentions (simple.Augmented x op at value) = target x ++ expr_mentions value
-simple_mentions (simple.Assign targets value) = flat_map target targets ++ expr_mentions value
-simple_mentions _ = []
+simple_mentions s = simple_own s ++ simple_inside s
 
 abbrev pub line_mentions : Line → List Mention
-line_mentions l = flat_map simple_mentions l.simples
+line_mentions l = all_of (map simple_mentions l.simples)
 
 -- ---- statements
 
@@ -133,7 +144,7 @@ abbrev pub stmt_step : Stmt-F (List Mention) (List Mention) (List Mention) (List
 stmt_step (Stmt-F.Simples line) = line_mentions line
 stmt_step (Stmt-F.IfNode at arms other) = all_of arms ++ maybe other
 stmt_step (Stmt-F.WhileNode at test body other) = expr_mentions test ++ (body ++ maybe other)
-stmt_step (Stmt-F.ForNode at x over body other) = target x ++ (expr_mentions over ++ (body ++ maybe other))
+stmt_step (Stmt-F.ForNode at x over body other) = target x ++ (expr_mentions x ++ (expr_mentions over ++ (body ++ maybe other)))
 stmt_step (Stmt-F.Try at body handlers other last) = body ++ (all_of handlers ++ (maybe other ++ maybe last))
 stmt_step (Stmt-F.With at word body) = body
 
@@ -145,7 +156,7 @@ abbrev pub arm_step : Arm-F (List Mention) (List Mention) (List Mention) (List M
 arm_step a = expr_mentions a.test ++ a.body
 
 abbrev pub handler_step : Handler-F (List Mention) (List Mention) (List Mention) (List Mention) → List Mention
-handler_step h = maybe_mentions h.kind ++ (handler_name h.name ++ h.body)
+handler_step h = handler_name h.name ++ (maybe_mentions h.kind ++ h.body)
 
 abbrev pub stmt_mentions : Stmt → List Mention
 stmt_mentions = fold-Stmt (List Mention) (List Mention) (List Mention) (List Mention) stmt_step suite_step arm_step handler_step
