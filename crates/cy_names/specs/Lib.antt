@@ -2,3 +2,5 @@ pub mod Breaches
 pub mod Declarations
 pub mod Mentions
 pub mod Resolve
+pub mod Shown
+pub mod Trees

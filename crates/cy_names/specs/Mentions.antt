@@ -5,8 +5,8 @@ use Rattle.std.specs.List.{flat_map}
 use Rattle.cy_tree.specs.declared.decl.ImportItem.{ImportItem}
 use Rattle.cy_tree.specs.declared.expr.Expr.{Expr, Expr-F, out-Expr, fold-Expr}
 use Rattle.cy_tree.specs.declared.expr.Expr.TheOpen.{Index-F, Part-F}
-use Rattle.cy_tree.specs.declared.expr.Index.{Index}
-use Rattle.cy_tree.specs.declared.expr.Part.{Part}
+use Rattle.cy_tree.specs.declared.expr.Index.{Index, fold-Index}
+use Rattle.cy_tree.specs.declared.expr.Part.{Part, fold-Part}
 use Rattle.cy_tree.specs.declared.stmt.Declared.{Declared}
 use Rattle.cy_tree.specs.declared.stmt.Line.{Line}
 use Rattle.cy_tree.specs.declared.stmt.Simple.{Simple}
@@ -14,6 +14,8 @@ use Rattle.cy_tree.specs.declared.stmt.Simple.TheVariants as simple
 use Rattle.cy_tree.specs.declared.stmt.Stmt.{Stmt, Stmt-F, fold-Stmt}
 use Rattle.cy_tree.specs.declared.stmt.Stmt.TheOpen.{Suite-F, Arm-F, Handler-F}
 use Rattle.cy_tree.specs.declared.stmt.Suite.{Suite, fold-Suite}
+use Rattle.cy_tree.specs.declared.stmt.Arm.{Arm, fold-Arm}
+use Rattle.cy_tree.specs.declared.stmt.Handler.{Handler, fold-Handler}
 use Rattle.cy_tree.specs.declared.types.Ident.{Ident}
 use Rattle.cy_tree.specs.declared.types.TypeName.{TypeName}
 use Rattle.cy_tree.specs.declared.types.TypeNode.{TypeNode}
@@ -31,39 +33,39 @@ pub data Mention : Type 0 where
   -- stands as a type
   TypeUse : TypeName → Mention
 
--- ---- expressions: the types that stand in their casts
-
 abbrev pub all_of : List (List Mention) → List Mention
 all_of [] = []
 all_of (ms ∷ more) = ms ++ all_of more
 
-abbrev pub maybe : Option (List Mention) → List Mention
-maybe None = []
-maybe (Some ms) = ms
+abbrev pub optional : {A : Type 0} → Option A → List A
+optional None = []
+optional (Some x) = x ∷ []
+
+-- ---- expressions: the types that stand in their casts
 
 abbrev pub expr_step : Expr-F (List Mention) (List Mention) (List Mention) → List Mention
-expr_step (Expr-F.Conditional at value test other) = value ++ (test ++ other)
+expr_step (Expr-F.Conditional at value test other) = all_of (value ∷ test ∷ other ∷ [])
 expr_step (Expr-F.Or at xs) = all_of xs
 expr_step (Expr-F.And at xs) = all_of xs
-expr_step (Expr-F.Not at x) = x
-expr_step (Expr-F.Compare at x op place y) = x ++ y
-expr_step (Expr-F.BitOr at x more) = x ++ all_of (map (λ o. o.1) more)
-expr_step (Expr-F.BitXor at x more) = x ++ all_of (map (λ o. o.1) more)
-expr_step (Expr-F.BitAnd at x more) = x ++ all_of (map (λ o. o.1) more)
-expr_step (Expr-F.Shift at x more) = x ++ all_of (map (λ o. o.2) more)
-expr_step (Expr-F.Sum at x more) = x ++ all_of (map (λ o. o.2) more)
-expr_step (Expr-F.Term at x more) = x ++ all_of (map (λ o. o.2) more)
-expr_step (Expr-F.Unary at op x) = x
-expr_step (Expr-F.Cast at kind checked x) = TypeUse kind.name ∷ x
-expr_step (Expr-F.Postfix at x parts) = x ++ all_of parts
+expr_step (Expr-F.Not at x) = all_of (x ∷ [])
+expr_step (Expr-F.Compare at x op place y) = all_of (x ∷ y ∷ [])
+expr_step (Expr-F.BitOr at x more) = all_of (x ∷ map (λ o. o.1) more)
+expr_step (Expr-F.BitXor at x more) = all_of (x ∷ map (λ o. o.1) more)
+expr_step (Expr-F.BitAnd at x more) = all_of (x ∷ map (λ o. o.1) more)
+expr_step (Expr-F.Shift at x more) = all_of (x ∷ map (λ o. o.2) more)
+expr_step (Expr-F.Sum at x more) = all_of (x ∷ map (λ o. o.2) more)
+expr_step (Expr-F.Term at x more) = all_of (x ∷ map (λ o. o.2) more)
+expr_step (Expr-F.Unary at op x) = all_of (x ∷ [])
+expr_step (Expr-F.Cast at kind checked x) = TypeUse kind.name ∷ all_of (x ∷ [])
+expr_step (Expr-F.Postfix at x parts) = all_of (x ∷ parts)
 expr_step (Expr-F.Tuple at xs) = all_of xs
 expr_step (Expr-F.ListNode at xs) = all_of xs
 expr_step (Expr-F.Dict at pairs) = all_of (map (λ p. p.0 ++ p.1) pairs)
 expr_step _ = []
 
 abbrev pub index_step : Index-F (List Mention) (List Mention) (List Mention) → List Mention
-index_step (Index-F.One x) = x
-index_step (Index-F.Slice at low high) = maybe low ++ maybe high
+index_step (Index-F.One x) = all_of (x ∷ [])
+index_step (Index-F.Slice at low high) = all_of (optional low ++ optional high)
 
 abbrev pub part_step : Part-F (List Mention) (List Mention) (List Mention) → List Mention
 part_step (Part-F.Attribute at name) = []
@@ -73,9 +75,14 @@ part_step (Part-F.Item at indexes) = all_of indexes
 abbrev pub expr_mentions : Expr → List Mention
 expr_mentions = fold-Expr (List Mention) (List Mention) (List Mention) expr_step index_step part_step
 
+abbrev pub index_mentions : Index → List Mention
+index_mentions = fold-Index (List Mention) (List Mention) (List Mention) expr_step index_step part_step
+
+abbrev pub part_mentions : Part → List Mention
+part_mentions = fold-Part (List Mention) (List Mention) (List Mention) expr_step index_step part_step
+
 abbrev pub maybe_mentions : Option Expr → List Mention
-maybe_mentions None = []
-maybe_mentions (Some e) = expr_mentions e
+maybe_mentions o = all_of (map expr_mentions (optional o))
 
 -- ---- simple statements
 
@@ -118,18 +125,18 @@ abbrev pub declared_mentions : Declared → List Mention
 declared_mentions d = Declares d.name ∷ maybe_mentions d.value
 
 -- and what the expressions in it say
-abbrev pub simple_inside : Simple → List Mention
-simple_inside (simple.ReturnNode at value) = maybe_mentions value
-simple_inside (simple.Raise at value) = maybe_mentions value
-simple_inside (simple.Del at xs) = all_of (map expr_mentions xs)
-simple_inside (simple.Cdef at kind names) = all_of (map declared_mentions names)
-simple_inside (simple.Expression x) = expr_mentions x
-simple_inside (simple.Augmented x op at value) = expr_mentions x ++ expr_mentions value
-simple_inside (simple.Assign targets value) = all_of (map expr_mentions targets) ++ expr_mentions value
+abbrev pub simple_inside : Simple → List (List Mention)
+simple_inside (simple.ReturnNode at value) = map expr_mentions (optional value)
+simple_inside (simple.Raise at value) = map expr_mentions (optional value)
+simple_inside (simple.Del at xs) = map expr_mentions xs
+simple_inside (simple.Cdef at kind names) = map declared_mentions names
+simple_inside (simple.Expression x) = expr_mentions x ∷ []
+simple_inside (simple.Augmented x op at value) = expr_mentions x ∷ expr_mentions value ∷ []
+simple_inside (simple.Assign targets value) = map expr_mentions targets ++ expr_mentions value ∷ []
 simple_inside _ = []
 
 abbrev pub simple_mentions : Simple → List Mention
-simple_mentions s = simple_own s ++ simple_inside s
+simple_mentions s = simple_own s ++ all_of (simple_inside s)
 
 abbrev pub line_mentions : Line → List Mention
 line_mentions l = all_of (map simple_mentions l.simples)
@@ -141,25 +148,31 @@ handler_name None = []
 handler_name (Some i) = Bound i ∷ []
 
 abbrev pub stmt_step : Stmt-F (List Mention) (List Mention) (List Mention) (List Mention) → List Mention
-stmt_step (Stmt-F.Simples line) = line_mentions line
-stmt_step (Stmt-F.IfNode at arms other) = all_of arms ++ maybe other
-stmt_step (Stmt-F.WhileNode at test body other) = expr_mentions test ++ (body ++ maybe other)
-stmt_step (Stmt-F.ForNode at x over body other) = target x ++ (expr_mentions x ++ (expr_mentions over ++ (body ++ maybe other)))
-stmt_step (Stmt-F.Try at body handlers other last) = body ++ (all_of handlers ++ (maybe other ++ maybe last))
-stmt_step (Stmt-F.With at word body) = body
+stmt_step (Stmt-F.Simples line) = all_of (line_mentions line ∷ [])
+stmt_step (Stmt-F.IfNode at arms other) = all_of (arms ++ optional other)
+stmt_step (Stmt-F.WhileNode at test body other) = all_of (expr_mentions test ∷ body ∷ optional other)
+stmt_step (Stmt-F.ForNode at x over body other) = target x ++ all_of (expr_mentions x ∷ expr_mentions over ∷ body ∷ optional other)
+stmt_step (Stmt-F.Try at body handlers other last) = all_of (body ∷ handlers ++ (optional other ++ optional last))
+stmt_step (Stmt-F.With at word body) = all_of (body ∷ [])
 
 abbrev pub suite_step : Suite-F (List Mention) (List Mention) (List Mention) (List Mention) → List Mention
-suite_step (Suite-F.Inline line) = line_mentions line
+suite_step (Suite-F.Inline line) = all_of (line_mentions line ∷ [])
 suite_step (Suite-F.Block statements) = all_of statements
 
 abbrev pub arm_step : Arm-F (List Mention) (List Mention) (List Mention) (List Mention) → List Mention
-arm_step a = expr_mentions a.test ++ a.body
+arm_step a = all_of (expr_mentions a.test ∷ a.body ∷ [])
 
 abbrev pub handler_step : Handler-F (List Mention) (List Mention) (List Mention) (List Mention) → List Mention
-handler_step h = handler_name h.name ++ (maybe_mentions h.kind ++ h.body)
+handler_step h = handler_name h.name ++ all_of (map expr_mentions (optional h.kind) ++ h.body ∷ [])
 
 abbrev pub stmt_mentions : Stmt → List Mention
 stmt_mentions = fold-Stmt (List Mention) (List Mention) (List Mention) (List Mention) stmt_step suite_step arm_step handler_step
 
 abbrev pub suite_mentions : Suite → List Mention
 suite_mentions = fold-Suite (List Mention) (List Mention) (List Mention) (List Mention) stmt_step suite_step arm_step handler_step
+
+abbrev pub arm_mentions : Arm → List Mention
+arm_mentions = fold-Arm (List Mention) (List Mention) (List Mention) (List Mention) stmt_step suite_step arm_step handler_step
+
+abbrev pub handler_mentions : Handler → List Mention
+handler_mentions = fold-Handler (List Mention) (List Mention) (List Mention) (List Mention) stmt_step suite_step arm_step handler_step

@@ -2,5 +2,7 @@
 #![tactic(auto)]
 
 mod lookup;
+mod mention;
 
 pub use lookup::resolve;
+pub use mention::{Mention, note_all};
