@@ -39,7 +39,8 @@ use Rattle.c_mach.specs.declared.parts.Delivery.TheVariants as delivery
 use Rattle.c_mach.specs.declared.parts.Turn.{Turn}
 use Rattle.c_mach.specs.declared.parts.Turn.TheVariants as turn
 use Rattle.c_look.specs.Views.{function_there, frame_view, frames_view, activated}
-use Rattle.c_look.specs.Lookups.{label_line, standing_named}
+use Rattle.c_look.specs.Lookups.{standing_named}
+use Rattle.c_tables.specs.Lines.{label_line}
 use Rattle.c_plan.specs.Plans.{checked, write_fault, own_after_store, store_fault, ask_fault, row_fault, call_fault, call_held, loans_in, branch_fault, taken_line, counted_fault, return_fault, operand_here, operands_here, spots_here, function_here, after, write_plan, store_plan, row_plan, ask_plan, call_there, call_plan, gain_of, gain_plan, loss_of, loss_plan, branch_plan, jump_plan, hand_plan, object_plan, null_plan, null_with, result_plan, return_plan, read_then, Scene, assign_plan, plan}
 use Rattle.c_look.specs.Readings.{all_held_in, held_in}
 use Rattle.c_mach.specs.Turned.{delivered, delivered_to, turned}

@@ -28,7 +28,8 @@ use Rattle.c_plan.specs.declared.effects.Effect.TheVariants as effect
 use Rattle.c_mach.specs.declared.parts.Turn.{Turn}
 use Rattle.c_mach.specs.declared.parts.Turn.TheVariants as turn
 use Rattle.c_look.specs.Views.{function_at, function_there, found_at, found_with, frame_view, frames_view}
-use Rattle.c_look.specs.Lookups.{Next, Lines, NoLine, next_line, standing_entered, standing_next}
+use Rattle.c_look.specs.Lookups.{standing_entered, standing_next}
+use Rattle.c_tables.specs.Lines.{Next, Lines, NoLine, next_line}
 use Rattle.c_plan.specs.Plans.{Scene, plan}
 use Rattle.c_plan.specs.Effects.{effected}
 use Rattle.c_mach.specs.Turned.{turned}

@@ -5,11 +5,11 @@ ghost use Rattle.c_state.specs.State.{put, put_to, put_spot, spots_at, set_spots
 ghost use Rattle.c_mach.specs.Applied.{parts_of, fixed, above, lent_to, on_last, stored, given, applied, effect_events, lends_of, answered_to, runs, delivered_in, moved_on, turn_events};
 
 use crate::parts::{Core, Delivery, Turn};
-use c_look::operands::{same_place, same_variable};
+use c_look::operands::same_place;
 use c_look::parts::Activation;
-use c_look::readings::converted;
 use c_plan::effects::Effect;
-use c_state::{ApiRow, Cell, Course, Doing, Event, Obj, Op, Place, Spot, Value, Variable};
+use c_state::{ApiRow, Course, Doing, Event, Obj, Op, Place, Spot, Value, Variable};
+use c_tables::{Cells, converted};
 use sqlite_items::Items;
 
 /// Puts an item at the end, where there is room for it.
@@ -38,33 +38,11 @@ fn put_all(loans: &mut Vec<Obj>, lent: Items<Obj>)
     }
 }
 
-/// A value for the first variable of that name.
-fn put_cell(cells: &mut Items<Cell>, x: Variable, value: Value)
-    ensures { cells.new ≡ put cells.old x value }
-{
-    for i in 0..cells.len() {
-        let cell = &cells.as_slice()[i];
-        let (variable, kind) = (cell.variable, cell.kind);
-        if same_variable(variable, x) {
-            let value = converted(kind, value);
-            cells.set(
-                i,
-                Cell {
-                    variable,
-                    kind,
-                    value,
-                },
-            );
-            return;
-        }
-    }
-}
-
-fn put_result(cells: &mut Items<Cell>, x: Option<Variable>, value: Value)
+fn put_result(cells: &mut Cells, x: Option<Variable>, value: Value)
     ensures { cells.new ≡ put_to cells.old x value }
 {
     if let Some(x) = x {
-        put_cell(cells, x, value);
+        cells.put(x, value);
     }
 }
 
@@ -110,7 +88,7 @@ fn write(core: &mut Core, top: Activation, x: Variable, value: Value, lent: Item
     ensures loans_capacity { vec_capacity core.old.loans ≤ vec_capacity core.new.loans }
 {
     let mut top = top;
-    put_cell(&mut top.variables, x, value);
+    top.variables.put(x, value);
     put_all(&mut core.loans, lent);
     put(&mut core.frames, top);
 }
@@ -224,7 +202,8 @@ fn ask(core: &mut Core, top: Activation, op: Op, row: ApiRow, to: Option<Variabl
 {
     let mut top = top;
     top.doing = Doing::Asks(op, row, to);
-    core.loans.clear();
+    let loans = &mut core.loans;
+    loans.clear();
     put(&mut core.frames, top);
 }
 

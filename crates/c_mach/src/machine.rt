@@ -2,7 +2,7 @@
 ghost use Rattle.std.specs.Prelude.{◌≡◌, IfOk};
 ghost use Rattle.c_mach.specs.Runs.{linked_run, IsStepOf, IsKept};
 
-use crate::linking::first_places;
+use crate::linking::{first_places, linked_files};
 use crate::parts::Core;
 use crate::step::step;
 use c_state::{CFile, Course, Entry, Event, Step};
@@ -37,6 +37,7 @@ impl Machine {
     pub fn new(alloc: Global, files: Vec<CFile>) -> Result<Machine, OutOfMemory>
         ensures { IfOk result (λ m. m ≡ linked_run files.items) }
     {
+        let files = linked_files(alloc, files)?;
         let places = first_places(alloc, files.as_slice())?;
         Ok(Machine {
             core: Core {

@@ -13,12 +13,12 @@ ghost use Rattle.c_mach.specs.Moves.{stage_of, go_of};
 use crate::parts::{Delivery, Turn};
 use c_look::copies::{copy_bytes, copy_callee, copy_obj, copy_objs, with_first};
 use c_look::lookups::{find_entered, find_initializer, function_there};
-use c_look::parts::{Activation, Standing};
+use c_look::parts::{Activation, LinkedFile, Standing};
 use c_plan::effects::Effect;
 use c_plan::entering::{Entrance, activate};
 use c_state::{
-    Answer, ApiRow, Bytes, CFile, CFunction, CHead, Callee, Doing, Entered, Entry, Obj, Op, Spot,
-    Value, Variable,
+    Answer, ApiRow, Bytes, CFunction, CHead, Callee, Doing, Entered, Entry, Obj, Op, Spot, Value,
+    Variable,
 };
 use cy_base::OutOfMemory;
 use sqlite_items::Items;
@@ -28,7 +28,7 @@ use std::alloc::Global;
 #[derive(Clone, Copy)]
 pub struct Stage<'a> {
     pub alloc: Global,
-    pub files: &'a [CFile],
+    pub files: &'a [LinkedFile],
     pub places: &'a [Items<Spot>],
     pub lock: bool,
     pub instances: u32,

@@ -1,6 +1,6 @@
 //! What the machine holds, and the moves of the outside.
-use c_look::parts::Activation;
-use c_state::{Answer, Bytes, CFile, Callee, Course, Obj, Spot, Variable};
+use c_look::parts::{Activation, LinkedFile};
+use c_state::{Answer, Bytes, Callee, Course, Obj, Spot, Variable};
 use sqlite_items::Items;
 use std::alloc::Global;
 
@@ -8,7 +8,7 @@ use std::alloc::Global;
 #[derive(Drop)]
 pub struct Core {
     pub alloc: Global,
-    pub files: Vec<CFile>,
+    pub files: Vec<LinkedFile>,
     pub taken: usize,
     pub instances: u32,
     pub views: u32,

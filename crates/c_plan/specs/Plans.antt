@@ -35,7 +35,8 @@ use Rattle.c_look.specs.declared.parts.Activation.{Activation}
 use Rattle.c_plan.specs.declared.effects.Effect.{Effect}
 use Rattle.c_plan.specs.declared.effects.Effect.TheVariants as effect
 use Rattle.c_look.specs.Views.{function_there, function_at, activated}
-use Rattle.c_look.specs.Lookups.{label_line, standing_named}
+use Rattle.c_look.specs.Lookups.{standing_named}
+use Rattle.c_tables.specs.Lines.{label_line}
 use Rattle.c_look.specs.Readings.{operand_in, operands_in, may_read_with, may_write_with, held_in, all_held_in}
 use Rattle.c_state.specs.declared.tree.CStmt.{CStmt}
 use Rattle.c_state.specs.declared.tree.CStmt.TheVariants as stmt

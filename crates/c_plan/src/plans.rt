@@ -12,14 +12,15 @@ use c_look::copies::{copy_bytes, copy_obj, copy_objs, copy_op, copy_value, with_
 use c_look::objects::{has, lose};
 use c_look::parts::Activation;
 use c_look::readings::{
-    all_held, all_set, any_null, by_comparison, comparable, converted, converts, fits, is_held,
-    is_null, is_set, lends, may_read, may_store, may_write, owns_just, owns_none, passed, receives,
+    all_held, all_set, any_null, by_comparison, comparable, converts, fits, is_held, is_null,
+    is_set, lends, may_read, may_store, may_write, owns_just, owns_none, passed, receives,
     same_lock, same_value,
 };
 use c_state::{
     ApiRow, BinaryOp, Bytes, CValue, Cell, Comparison, Doing, Entered, Event, FaultKind, Kind, Obj,
     Op, Place, Reading, Spot, Value, Variable,
 };
+use c_tables::{Cells, converted};
 use cy_base::OutOfMemory;
 use sqlite_items::Items;
 use std::alloc::Global;
@@ -157,7 +158,7 @@ fn takes(row: ApiRow) -> &'static [Kind]
     }
 }
 
-fn row_accepts(row: ApiRow, cells: &[Cell], x: Option<Variable>) -> bool
+fn row_accepts(row: ApiRow, cells: &Cells, x: Option<Variable>) -> bool
     ensures { result ≡ row_accepts row cells.now x }
 {
     match row {
@@ -166,7 +167,7 @@ fn row_accepts(row: ApiRow, cells: &[Cell], x: Option<Variable>) -> bool
     }
 }
 
-fn row_fault(cells: &[Cell], x: Option<Variable>, row: ApiRow, vs: &[Reading]) -> Option<FaultKind>
+fn row_fault(cells: &Cells, x: Option<Variable>, row: ApiRow, vs: &[Reading]) -> Option<FaultKind>
     ensures { result ≡ row_fault cells.now x row vs.now }
 {
     if !fits(takes(row), vs) {
@@ -332,7 +333,7 @@ pub fn row_plan(
 ) -> Planned
     ensures { IfOk result (λ e. e ≡ row_plan lock error.now places.now here.now x row vs.now) }
 {
-    if let Some(fault) = row_fault(here.variables.as_slice(), x, row, vs) {
+    if let Some(fault) = row_fault(&here.variables, x, row, vs) {
         return Ok(Effect::Fault(fault));
     }
     let Some(op) = op_of(alloc, row, vs)? else {

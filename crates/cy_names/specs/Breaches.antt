@@ -244,8 +244,11 @@ pyx_breaches set m =
     ++ (flat_map (cimport_lacks set) (flat_map top_cimports (tops set m.files))
     ++ flat_map (function_breaches set m) (functions (tops set m.files))))))
 
+abbrev pub refused : ℕ → ℕ → ℕ → Refusal
+refused file number offset = record { rule = record { phase = phase.Name; number = number }; file = file; offset = offset }
+
 abbrev pub refusal : ℕ → Breach → Refusal
-refusal file b = record { rule = record { phase = phase.Name; number = b.rule }; file = file; offset = b.offset }
+refusal file b = refused file b.rule b.offset
 
 abbrev pub refusals_of_pxd : SourceSet → Module → Option ℕ → List Refusal
 refusals_of_pxd set m None = []

@@ -3,9 +3,7 @@
 
 mod laws;
 
-pub use laws::{
-    expressions_are_read, expressions_have_one_answer, expressions_spell_one_tree,
-};
+pub use laws::{expressions_are_read, expressions_have_one_answer, expressions_spell_one_tree};
 
 /// The levels of the grammar at which an expression stands inside another (Python language reference, 6).
 #[derive(Clone, Copy, Debug, PartialEq, Eq)]

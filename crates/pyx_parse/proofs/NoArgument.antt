@@ -1,6 +1,5 @@
 -- Behind the last argument that may stand.
-use Rattle.std.proofs.Common.{◌≡◌, ℕ, Bool, true, false, cond, List, [], ◌∷◌, ◌++◌, refl, sym, ◌∙◌, ap, append-nil}
-use Rattle.std.specs.Prelude.{◌≢◌}
+use Rattle.std.proofs.Common.{◌≡◌, ℕ, Bool, true, false, cond, List, [], ◌∷◌, refl, sym, ◌∙◌, ap, append-nil}
 use Rattle.pyx_lex.specs.declared.token.Token.{Token}
 use Rattle.forms.specs.Forms.{Set}
 use Rattle.forms.specs.Readers.{Fault, unexpected, limit, Outcome, did, bad, Reader, sees, limit_at, refuse}

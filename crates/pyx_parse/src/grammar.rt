@@ -12,8 +12,8 @@ ghost use Rattle.token_input.specs.Reads.{Reads};
 ghost use Rattle.pyx_parse.specs.Below.{below, Nests};
 
 use crate::nodes::{
-    bit_and_node, bit_or_node, bit_xor_node, conditional, conjunction_node, disjunction_node, prefix_op, shift_node,
-    shift_op, sum_node, sum_op, term_node, term_op,
+    bit_and_node, bit_or_node, bit_xor_node, conditional, conjunction_node, disjunction_node,
+    prefix_op, shift_node, shift_op, sum_node, sum_op, term_node, term_op,
 };
 use cy_tree::{Comparison, Expr, Operand, ShiftOperand, SumOperand, TermOperand};
 use expr_grammar::Level;

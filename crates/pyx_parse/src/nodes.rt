@@ -3,7 +3,9 @@ ghost use Rattle.std.specs.Prelude.{◌≡◌, ◌++◌, IfOk};
 ghost use Rattle.expr_grammar.specs.Nodes as node;
 
 use cy_base::{OutOfMemory, Text};
-use cy_tree::{Expr, Operand, Part, ShiftOp, ShiftOperand, SumOp, SumOperand, TermOp, TermOperand, UnaryOp};
+use cy_tree::{
+    Expr, Operand, Part, ShiftOp, ShiftOperand, SumOp, SumOperand, TermOp, TermOperand, UnaryOp,
+};
 use sqlite_items::{Boxed, Items};
 use std::alloc::{AllocError, Global};
 use token_class::TokenClass;

@@ -1,5 +1,5 @@
 -- The last token tells whether tokens end with the end.
-use Rattle.std.proofs.Common.{◌≡◌, ℕ, suc, ◌-◌, ◌≤◌, Bool, true, false, List, [], ◌∷◌, length, get_or, refl, sym, ◌∙◌, ap, arith}
+use Rattle.std.proofs.Common.{◌≡◌, suc, ◌-◌, ◌≤◌, false, List, [], ◌∷◌, length, get_or, refl, sym, ◌∙◌, ap, arith}
 use Rattle.pyx_lex.specs.declared.token.Token.{Token}
 use Rattle.pyx_lex.specs.declared.token.TokenKind.{TokenKind}
 use Rattle.pyx_lex.specs.declared.token.TokenKind.TheVariants as k

@@ -1,4 +1,4 @@
-use Rattle.std.proofs.Common.{◌≡◌, ℕ, ◌-◌, ◌∙◌, sym, ap, inl, inr, drop}
+use Rattle.std.proofs.Common.{◌≡◌, ◌-◌, ap, inl, inr, drop}
 use Rattle.std.specs.Prelude.{◌≢◌, Err}
 use Rattle.cy_base.specs.declared.error.Stop.TheVariants as Stop
 use Rattle.forms.specs.Readers.{did, bad}

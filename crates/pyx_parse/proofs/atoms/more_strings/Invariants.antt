@@ -1,13 +1,9 @@
 use Rattle.std.proofs.Common.{◌≡◌, ◌-◌}
-use Rattle.forms.specs.Readers.{read_both, read_one, read_many}
-use Rattle.forms.specs.Lists.{second, itself}
+use Rattle.forms.specs.Readers.{read_one, read_many}
 use Rattle.forms.proofs.Loops.{with_front, left}
 use Rattle.token_class.specs.Sets.{of}
 use Rattle.expr_grammar.specs.Words as set
-use Rattle.expr_grammar.specs.Grammar.{is_positive}
 use Rattle.expr_grammar.specs.Nodes as node
-use Rattle.expr_grammar.specs.Reading as spec
-use Rattle.pyx_parse.specs.Below.{below}
 use Rattle.pyx_parse.proofs.atoms.more_strings.Given as goal
 
 abbrev pub invariant-loop-turn : goal.invariant-loop-turn

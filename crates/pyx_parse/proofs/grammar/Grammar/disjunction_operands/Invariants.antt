@@ -5,7 +5,6 @@ use Rattle.forms.proofs.Loops.{with_front, left}
 use Rattle.token_class.specs.Sets.{of}
 use Rattle.expr_grammar.specs.Words as set
 use Rattle.expr_grammar.specs.Grammar.{is_positive}
-use Rattle.expr_grammar.specs.Nodes as node
 use Rattle.expr_grammar.specs.Reading as spec
 use Rattle.pyx_parse.specs.Below.{below}
 use Rattle.pyx_parse.proofs.grammar.Grammar.disjunction_operands.Given as goal

@@ -3,8 +3,6 @@ use Rattle.forms.specs.Lists.{read_trail}
 use Rattle.forms.proofs.RowLoops.{with_row, left_row}
 use Rattle.token_class.specs.Sets.{of}
 use Rattle.expr_grammar.specs.Words as set
-use Rattle.expr_grammar.specs.Grammar.{is_positive}
-use Rattle.expr_grammar.specs.Reading as spec
 use Rattle.expr_grammar.specs.declared.Level.TheVariants as level
 use Rattle.pyx_parse.specs.Below.{below}
 use Rattle.pyx_parse.proofs.grammar.Grammar.more_exprs.Given as goal

@@ -5,7 +5,6 @@ use Rattle.token_class.specs.Sets.{of}
 use Rattle.expr_grammar.specs.Words as set
 use Rattle.expr_grammar.specs.Grammar.{is_positive}
 use Rattle.expr_grammar.specs.Reading as spec
-use Rattle.expr_grammar.specs.declared.Level.TheVariants as level
 use Rattle.pyx_parse.specs.Below.{below}
 use Rattle.pyx_parse.proofs.grammar.Grammar.more_indexes.Given as goal
 

@@ -1,6 +1,6 @@
 use Rattle.std.proofs.Common.{◌≡◌, ◌-◌}
 use Rattle.forms.specs.Readers.{read_both, read_one, read_many}
-use Rattle.forms.specs.Lists.{second, itself}
+use Rattle.forms.specs.Lists.{itself}
 use Rattle.forms.proofs.Loops.{with_front, left}
 use Rattle.token_class.specs.Sets.{of}
 use Rattle.expr_grammar.specs.Words as set
