@@ -23,7 +23,7 @@ fn items_of_a_file(rt: HostRuntime) -> Result<(), Fail> {
     let rows: [(&str, &[usize]); 7] = [
         ("include LINE int a ;", &[2, 3]),
         ("int f ( void ) { a ; { b ; } } int c ;", &[13, 3]),
-        ("struct s { int a ; int b ; } ;", &[10]),
+        ("struct s { int a ; int b ; } ;", &[11]),
         ("int t = { 1 , 2 } ; int u ;", &[9, 3]),
         ("int f ( void ) ; int g ( void ) { }", &[6, 7]),
         ("int f ( void ) { a", &[7]),
