@@ -1,0 +1,13 @@
+//! What statements and declarations are made of: names, imported names, names behind types, lists of expressions, and the
+//! simple statements that begin with a word.
+#![tactic(auto)]
+
+mod exprs;
+mod names;
+mod sets;
+mod simple;
+
+pub use exprs::{all_declared, expr, expr_list, target, value_if_any, values};
+pub use names::{alias, import_item, import_items, more_names, name_list, typed_name};
+pub use sets::StmtSet;
+pub use simple::{cdef_stmt, from_stmt, imported, word_stmt};
