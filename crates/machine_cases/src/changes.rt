@@ -1,4 +1,5 @@
 //! The C of a thin function of two parameters, with one change in its body.
+use crate::long;
 use anyhow::{Result, anyhow};
 use c_state::{
     ApiRow, BinaryOp, Bytes, CFile, CFunction, CHead, CItem, CStmt, CType, CValue, Comparison,
@@ -128,7 +129,10 @@ pub fn changed(alloc: Global, files: Vec<CFile>, change: &str) -> Result<Vec<CFi
     if change.is_empty() {
         return Ok(files);
     }
-    let function = function(alloc, change)?;
+    let function = match change.strip_prefix("loop ") {
+        Some(size) => long::function(alloc, size.parse::<u32>()?)?,
+        None => function(alloc, change)?,
+    };
     let file = files.get_mut(1).ok_or(anyhow!("no file of the module"))?;
     if file.items.len() <= FUNCTION_PLACE {
         return Err(anyhow!("no function"));

@@ -1,10 +1,11 @@
 //! Runs the machine over the C of thin files and over C with one change, and prints each trace, how the run came to
 //! its end, which one more step doesn't change, and after how many steps. The cases stand in the files that the words
-//! name, and the expected lines in the file `stdout`. A case is a line: a name, a change, a source and a script, with
-//! `|` between them.
+//! name, and the expected lines in the file `stdout`. A case is a line: a name, a change, a source and a script, and
+//! the most steps where the usual don't do, with `|` between them.
 #![tactic(auto)]
 
 mod changes;
+mod long;
 mod read;
 mod show;
 
@@ -23,11 +24,12 @@ fn finished<R: Runtime + AllocGlobal>(
     rt: &R,
     machine: &mut Machine,
     script: &[Entry],
+    most: u64,
 ) -> Result<()> {
     let mut events = Vec::new(rt.alloc());
     let mut steps: u64 = 0;
     let mut answer = Step::Went;
-    for _ in 0..MOST_STEPS {
+    for _ in 0..most {
         answer = machine.step(script, &mut events);
         if answer != Step::Went {
             break;
@@ -35,7 +37,9 @@ fn finished<R: Runtime + AllocGlobal>(
         steps = steps.saturating_add(1);
     }
     let made = events.len();
-    if machine.step(script, &mut events) != answer || events.len() != made {
+    if answer != Step::Went
+        && (machine.step(script, &mut events) != answer || events.len() != made)
+    {
         println!(rt; "another step after the last")?;
     }
     for event in events.iter() {
@@ -51,12 +55,16 @@ fn run_case<R: Runtime + AllocGlobal>(rt: &R, line: &str) -> Result<()> {
     let change = parts.next().ok_or(anyhow!("no change"))?;
     let source = parts.next().ok_or(anyhow!("no source"))?;
     let script = read::script(rt.alloc(), parts.next().ok_or(anyhow!("no script"))?)?;
+    let most = match parts.next() {
+        Some(word) => word.parse::<u64>()?,
+        None => MOST_STEPS,
+    };
     println!(rt; "== {name}")?;
     let text = format!(in rt.alloc(); "{source}\n")?;
     let files = thin(rt.alloc(), b"m", text.as_bytes())?.ok_or(anyhow!("not thin"))?;
     let files = changes::changed(rt.alloc(), files, change)?;
     let mut machine = Machine::new(rt.alloc(), files)?;
-    finished(rt, &mut machine, script.as_slice())
+    finished(rt, &mut machine, script.as_slice(), most)
 }
 
 fn main(rt: HostRuntime) -> Result<()> {
