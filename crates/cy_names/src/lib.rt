@@ -3,6 +3,8 @@
 
 mod lookup;
 mod naming;
+#[cfg(test)]
+mod tests;
 
 pub use lookup::resolve;
 pub use naming::resolve_set;
