@@ -239,9 +239,9 @@ one-more start now next ts place c at so e =
     ∙ ap (λ (ms : List Mention). ms ++ mentions c) so
     ∙ append_assoc start (all_of (said (take place ts))) (mentions c)
     ∙ ap (λ (ms : List Mention). start ++ ms)
-      (ap (λ (ms : List Mention). all_of (said (take place ts)) ++ ms) (sym (nothing_more (mentions c)))
-      ∙ sym (all_of-append (said (take place ts)) (mentions c ∷ []))
-      ∙ ap all_of (sym (map-append mentions (take place ts) (c ∷ [])) ∙ ap (λ (us : List Tree). said us) (sym (take-suc ts place c at))))
+    (ap (λ (ms : List Mention). all_of (said (take place ts)) ++ ms) (sym (nothing_more (mentions c)))
+    ∙ sym (all_of-append (said (take place ts)) (mentions c ∷ []))
+    ∙ ap all_of (sym (map-append mentions (take place ts) (c ∷ [])) ∙ ap (λ (us : List Tree). said us) (sym (take-suc ts place c at))))
 
 pub all-said : (before start last : List Mention) (t : Tree) (place : ℕ) → slice_get (children t) place ≡ None
     → start ≡ before ++ own t → last ≡ start ++ all_of (said (take place (children t))) → last ≡ before ++ mentions t

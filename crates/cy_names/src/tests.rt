@@ -156,7 +156,11 @@ fn names_are_resolved(rt: HostRuntime) -> Result<(), Fail> {
         (3, "A", NameKind::Global),
     ];
     for (scope, name, wanted) in rows.iter() {
-        assert_eq!(rt; resolve(&named, *scope, name.as_bytes()), *wanted, "{name} in {scope}");
+        assert_eq!(rt;
+            resolve(&named, *scope, name.as_bytes()),
+            *wanted,
+            "{name} in {scope}"
+        );
     }
     Ok(())
 }

@@ -9,9 +9,7 @@ ghost use Rattle.name_table.specs.Entries.{is_among, texts};
 
 use crate::function::judge_functions;
 use crate::mention::{Here, judge_cimports, judge_mentions};
-use crate::second::{
-    Noted, Refusals, breaks, judge_items, judge_names, judge_second, judge_tops,
-};
+use crate::second::{Noted, Refusals, breaks, judge_items, judge_names, judge_second, judge_tops};
 use cy_base::{FileId, OutOfMemory};
 use cy_mention::{
     note_all_cimport_names, note_all_functions, note_all_top_names, note_item_cimports,
@@ -42,7 +40,12 @@ fn judge_items_said(alloc: Global, here: Here<'_>, items: &[PxdItem], out: &mut 
     judge_mentions(here, &locals, mentions.as_slice(), out)
 }
 
-fn judge_item_cimports(alloc: Global, here: Here<'_>, items: &[PxdItem], out: &mut Refusals) -> Noted
+fn judge_item_cimports(
+    alloc: Global,
+    here: Here<'_>,
+    items: &[PxdItem],
+    out: &mut Refusals,
+) -> Noted
     ensures { OnOk result (out.new.items ≡ out.old.items ++ flat_map (cimport_refusals here.entry.file here.entry.known.now) (flat_map item_cimports items.now)) }
 {
     let mut cimports = Vec::new(alloc);
@@ -106,12 +109,7 @@ fn judge_name(file: FileId, shared: &NameTable, name: &Ident, out: &mut Refusals
     Ok(())
 }
 
-fn judge_each_name(
-    file: FileId,
-    shared: &NameTable,
-    names: &[&Ident],
-    out: &mut Refusals,
-) -> Noted
+fn judge_each_name(file: FileId, shared: &NameTable, names: &[&Ident], out: &mut Refusals) -> Noted
     ensures { OnOk result (out.new.items ≡ out.old.items ++ flat_map (name_refusal file (texts shared.now)) (idents names.now)) }
 {
     for name in names {
@@ -210,11 +208,7 @@ fn judge_some_pxd(
     let Some(file) = file else {
         return Ok(());
     };
-    let here = Here {
-        file,
-        known,
-        names,
-    };
+    let here = Here { file, known, names };
     judge_pxd(alloc, here, items, out)
 }
 
@@ -229,11 +223,7 @@ fn judge_some_pyx(
 ) -> Noted
     ensures { OnOk result (out.new.items ≡ out.old.items ++ pyx_refusals file known.now names.now items.now tops.now) }
 {
-    let here = Here {
-        file,
-        known,
-        names,
-    };
+    let here = Here { file, known, names };
     judge_pyx(alloc, here, items, tops, out)
 }
 

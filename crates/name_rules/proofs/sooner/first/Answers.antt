@@ -7,4 +7,4 @@ use Rattle.name_rules.proofs.sooner.first.Goals as goal
 pub loop-refusal-preserved : goal.loop-refusal-preserved
 loop-refusal-preserved c =
     subst (λ (rs : List Refusal). IsFirst c.earliest.result rs) (sym (take_more c.args.refusals.now c.loop-refusal.refusal-index _ c.loop-refusal-test.true))
-      (c.earliest.ensures (take c.loop-refusal.refusal-index c.args.refusals.now) c.loop-refusal.invariant)
+    (c.earliest.ensures (take c.loop-refusal.refusal-index c.args.refusals.now) c.loop-refusal.invariant)
