@@ -2,6 +2,7 @@
 #![tactic(auto)]
 
 mod function;
+mod given;
 mod mention;
 mod module;
 mod second;
