@@ -8,7 +8,7 @@ use Rattle.cy_tree.specs.declared.expr.Expr.TheFolds.{map-Expr, map-Index, map-P
 use Rattle.cy_tree.specs.declared.expr.Part.{Part, out-Part, fold_out-Part}
 use Rattle.cy_tree.specs.declared.expr.Index.{Index, out-Index, fold_out-Index}
 use Rattle.cy_tree.specs.declared.stmt.Stmt.{Stmt, Stmt-F, out-Stmt, fold_out-Stmt}
-use Rattle.cy_tree.specs.declared.stmt.Stmt.TheOpen.{Suite-F, Arm-F, Handler-F}
+use Rattle.cy_tree.specs.declared.stmt.Stmt.TheOpen.{Suite-F}
 use Rattle.cy_tree.specs.declared.stmt.Stmt.TheFolds.{map-Stmt, map-Suite}
 use Rattle.cy_tree.specs.declared.stmt.Suite.{Suite, out-Suite, fold_out-Suite}
 use Rattle.cy_tree.specs.declared.stmt.Arm.{Arm, fold_out-Arm}
@@ -26,7 +26,7 @@ use Rattle.cy_tree.specs.declared.stmt.Simple.{Simple}
 use Rattle.cy_tree.specs.declared.stmt.Simple.TheVariants as simple
 use Rattle.cy_tree.specs.Nodes.{Tree, FileNode, TopNode, PxdItemNode, ClassNode, PxdClassNode, MemberNode, PxdMemberNode, CFunctionNode, HeadingNode, HeaderNode, DefNode, VariablesNode, ParamNode, DeclaredNode, SuiteNode, LineNode, StmtNode, ArmNode, HandlerNode, SimpleNode, ExprNode, PartNode, IndexNode, children, each_pair, expr_children, part_children, index_children, stmt_children, suite_children, simple_children}
 use Rattle.cy_tree.specs.Nodes as node
-use Rattle.cy_mention.specs.Mentions.{Mention, TypeUse, all_of, optional, target, type_mentions, simple_own, simple_inside, handler_name, expr_step, index_step, part_step, stmt_step, suite_step, arm_step, handler_step, expr_mentions, index_mentions, part_mentions, simple_mentions, stmt_mentions, suite_mentions, arm_mentions, handler_mentions}
+use Rattle.cy_mention.specs.Mentions.{Mention, all_of, optional, type_mentions, simple_own, simple_inside, handler_name, expr_step, index_step, part_step, stmt_step, suite_step, arm_step, handler_step, expr_mentions, index_mentions, part_mentions, stmt_mentions, suite_mentions, arm_mentions, handler_mentions}
 use Rattle.cy_mention.specs.Trees.{own, expr_own, stmt_own, mentions}
 
 -- what a list of nodes says

@@ -1,6 +1,6 @@
 -- The rules on names, and where they are broken (Cython documentation, "Language Basics", "Sharing Declarations Between
 -- Cython Modules"; the project's own). An offset is the first byte of the name that is spoken of.
-use Rattle.std.specs.Prelude.{◌≡◌, ℕ, Bool, true, false, ◌||◌, if◌then◌else◌, List, [], ◌∷◌, ◌++◌, Option, Some, None, is_none, map, codes, bytes_eq}
+use Rattle.std.specs.Prelude.{ℕ, Bool, true, false, ◌||◌, if◌then◌else◌, List, [], ◌∷◌, ◌++◌, Option, Some, None, is_none, codes, bytes_eq}
 use Rattle.std.specs.List.{flat_map}
 use Rattle.cy_base.specs.declared.place.Phase.TheVariants as phase
 use Rattle.cy_base.specs.declared.place.Refusal.{Refusal}

@@ -1,7 +1,6 @@
-use Rattle.std.proofs.Common.{◌≡◌, ◌∙◌, List, refl, subst}
+use Rattle.std.proofs.Common.{◌≡◌, List, refl, subst}
 use Rattle.std.specs.Result.{IfOk}
 use Rattle.cy_mention.specs.FunctionsShown.{function_shown}
-use Rattle.cy_mention.specs.Mentions.{Mention}
 use Rattle.cy_mention.specs.Modules.{idents, mentions_of}
 use Rattle.cy_mention.specs.Shown.{all_shown}
 use Rattle.name_table.specs.Entries.{Entry}

@@ -1,4 +1,4 @@
-use Rattle.std.proofs.Common.{◌≡◌, take, subst, List, sym}
+use Rattle.std.proofs.Common.{take, subst, List, sym}
 use Rattle.std.proofs.lemmas.List.{take_more}
 use Rattle.cy_base.specs.declared.place.Refusal.{Refusal}
 use Rattle.name_rules.specs.First.{IsFirst}

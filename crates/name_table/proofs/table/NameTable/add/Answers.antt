@@ -1,4 +1,4 @@
-use Rattle.std.proofs.Common.{◌≡◌, ◌∙◌, sym}
+use Rattle.std.proofs.Common.{◌∙◌, sym}
 use Rattle.name_table.proofs.Maps.{added}
 use Rattle.name_table.proofs.table.NameTable.add.Goals as goal
 
