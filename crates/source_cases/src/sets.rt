@@ -19,6 +19,7 @@ use std::str;
 use token_input::ends;
 
 // What a line says: its files, and what is to be resolved.
+#[derive(Drop)]
 struct Case<'a> {
     files: Vec<(&'a str, &'a str)>,
     asked: Vec<&'a str>,
@@ -49,6 +50,7 @@ fn read_case<'a>(alloc: Global, line: &'a str) -> Result<Case<'a>> {
 // ---- the set
 
 // A module as its files are met.
+#[derive(Drop)]
 struct Listed {
     name: Text,
     pyx: Option<FileId>,
