@@ -34,7 +34,7 @@ end_of tree (x ∷ []) = rw (same_end (class_of x.kind)) (go (of is_end x))
     go false = refl
 end_of tree (x ∷ y ∷ us) = rw (same_end (class_of x.kind)) (go (of is_end x))
   where
-    go : (c : Bool) → and_then (and_then (cond c (did x (y ∷ us)) (bad unexpected (x ∷ y ∷ us))) (λ x r. did tree r)) at_its_end ≡ and_then (cond c (bad unexpected (y ∷ us)) (bad unexpected (x ∷ y ∷ us))) (λ x r. did {T = Token} tree r)
+    go : (c : Bool) → and_then (and_then (cond c (did x (y ∷ us)) (bad unexpected (x ∷ y ∷ us))) (λ x r. did tree r)) at_its_end ≡ and_then (cond c (bad unexpected (y ∷ us)) (bad unexpected (x ∷ y ∷ us))) (λ x r. did tree r)
     go true = refl
     go false = refl
 
