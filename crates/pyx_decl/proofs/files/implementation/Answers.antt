@@ -8,7 +8,7 @@ use Rattle.token_input.proofs.Stops.{in_err}
 use Rattle.decl_grammar.specs.Grammar.{implementation}
 use Rattle.decl_grammar.specs.Reading.{read_implementation}
 use Rattle.decl_grammar.specs.Files.{in_brackets, read_whole}
-use Rattle.pyx_decl.proofs.Files.{implementation_read, implementation_once}
+use Rattle.pyx_decl.proofs.Known.{implementation_read, implementation_once}
 use Rattle.pyx_decl.proofs.Whole.{made_tree, made_same, no_breach, stop_tree, stop_refused, stop_breach}
 use Rattle.pyx_decl.proofs.files.implementation.Goals as goal
 
