@@ -1,14 +1,14 @@
 #!/usr/bin/env python3
 """Prints how long the machine takes for steps, as the function, the script or the events so far grow.
 
-Run it at the top of the repository, behind `rt run -- cases.txt` in crates/machine_cases, which builds the program. The
-time of the same cases with few steps, which reads the script and makes and links the C, is taken off.
+Run it at the top of the repository, behind `rt run -- data/cases.txt` in crates/machine_cases, which builds the program. It
+tells processor time; that of the same cases with few steps, which reads the script and makes and links the C, is taken off.
 """
 import os
+import resource
 import subprocess
 import sys
 import tempfile
-import time
 
 PROGRAM = os.path.join("crates", "machine_cases", "out", "machine_cases")
 CASE = "speed|{change}|def f(a, b): return a + b|ok F1 / ok F2 / ok F3 / ok F4 / enter m.f F5 F6{more}|{steps}\n"
@@ -19,13 +19,18 @@ STEPS = 100_000
 TURN = 3
 
 
+def processor_time():
+    used = resource.getrusage(resource.RUSAGE_CHILDREN)
+    return used.ru_utime + used.ru_stime
+
+
 def told(folder, case, times):
     path = os.path.join(folder, "cases.txt")
     with open(path, "w", encoding="ascii") as out:
         out.write(case * times)
-    start = time.perf_counter()
+    start = processor_time()
     ran = subprocess.run([PROGRAM, path], check=True, capture_output=True, text=True)
-    taken = time.perf_counter() - start
+    taken = processor_time() - start
     assert ran.stdout.count("went on\n") == times, ran.stdout[-200:]
     return taken
 
