@@ -1,0 +1,4 @@
+pub mod Digits
+pub mod Joins
+pub mod Voids
+pub mod Statics
