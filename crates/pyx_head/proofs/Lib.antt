@@ -1,2 +1,0 @@
-pub mod NoParam
-pub mod Valued
