@@ -3,6 +3,7 @@
 
 pub mod copies;
 pub mod lookups;
+pub mod objects;
 pub mod operands;
 pub mod parts;
 pub mod readings;

@@ -1,2 +1,0 @@
-pub mod ModuleRules
-pub mod OneMore

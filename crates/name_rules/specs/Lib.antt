@@ -1,4 +1,0 @@
-pub mod Breaches
-pub mod First
-pub mod Given
-pub mod GivenShown

@@ -1,4 +1,0 @@
-pub mod Entries
-pub mod EntriesShown
-pub mod Laws
-pub mod Shown
