@@ -8,7 +8,7 @@ use Rattle.cy_tree.specs.declared.expr.Expr.TheFolds.{map-Expr, map-Index, map-P
 use Rattle.cy_tree.specs.declared.expr.Part.{Part, out-Part, fold_out-Part}
 use Rattle.cy_tree.specs.declared.expr.Index.{Index, out-Index, fold_out-Index}
 use Rattle.cy_tree.specs.declared.stmt.Stmt.{Stmt, Stmt-F, out-Stmt, fold_out-Stmt}
-use Rattle.cy_tree.specs.declared.stmt.Stmt.TheOpen.{Suite-F}
+use Rattle.cy_tree.specs.declared.stmt.Stmt.TheOpen.{Suite-F, Arm-F, Handler-F}
 use Rattle.cy_tree.specs.declared.stmt.Stmt.TheFolds.{map-Stmt, map-Suite}
 use Rattle.cy_tree.specs.declared.stmt.Suite.{Suite, out-Suite, fold_out-Suite}
 use Rattle.cy_tree.specs.declared.stmt.Arm.{Arm, fold_out-Arm}
@@ -26,7 +26,7 @@ use Rattle.cy_tree.specs.declared.stmt.Simple.{Simple}
 use Rattle.cy_tree.specs.declared.stmt.Simple.TheVariants as simple
 use Rattle.cy_tree.specs.Nodes.{Tree, FileNode, TopNode, PxdItemNode, ClassNode, PxdClassNode, MemberNode, PxdMemberNode, CFunctionNode, HeadingNode, HeaderNode, DefNode, VariablesNode, ParamNode, DeclaredNode, SuiteNode, LineNode, StmtNode, ArmNode, HandlerNode, SimpleNode, ExprNode, PartNode, IndexNode, children, each_pair, expr_children, part_children, index_children, stmt_children, suite_children, simple_children}
 use Rattle.cy_tree.specs.Nodes as node
-use Rattle.cy_mention.specs.Mentions.{Mention, all_of, optional, type_mentions, simple_own, simple_inside, handler_name, expr_step, index_step, part_step, stmt_step, suite_step, arm_step, handler_step, expr_mentions, index_mentions, part_mentions, stmt_mentions, suite_mentions, arm_mentions, handler_mentions}
+use Rattle.cy_mention.specs.Mentions.{Mention, TypeUse, all_of, optional, target, type_mentions, simple_own, simple_inside, handler_name, expr_step, index_step, part_step, stmt_step, suite_step, arm_step, handler_step, expr_mentions, index_mentions, part_mentions, simple_mentions, stmt_mentions, suite_mentions, arm_mentions, handler_mentions}
 use Rattle.cy_mention.specs.Trees.{own, expr_own, stmt_own, mentions}
 
 -- what a list of nodes says
@@ -239,9 +239,9 @@ one-more start now next ts place c at so e =
     ∙ ap (λ (ms : List Mention). ms ++ mentions c) so
     ∙ append_assoc start (all_of (said (take place ts))) (mentions c)
     ∙ ap (λ (ms : List Mention). start ++ ms)
-    (ap (λ (ms : List Mention). all_of (said (take place ts)) ++ ms) (sym (nothing_more (mentions c)))
-    ∙ sym (all_of-append (said (take place ts)) (mentions c ∷ []))
-    ∙ ap all_of (sym (map-append mentions (take place ts) (c ∷ [])) ∙ ap (λ (us : List Tree). said us) (sym (take-suc ts place c at))))
+      (ap (λ (ms : List Mention). all_of (said (take place ts)) ++ ms) (sym (nothing_more (mentions c)))
+      ∙ sym (all_of-append (said (take place ts)) (mentions c ∷ []))
+      ∙ ap all_of (sym (map-append mentions (take place ts) (c ∷ [])) ∙ ap (λ (us : List Tree). said us) (sym (take-suc ts place c at))))
 
 pub all-said : (before start last : List Mention) (t : Tree) (place : ℕ) → slice_get (children t) place ≡ None
     → start ≡ before ++ own t → last ≡ start ++ all_of (said (take place (children t))) → last ≡ before ++ mentions t

@@ -1,6 +1,6 @@
 -- What the items of a file say of names in their module's scope, the names that they declare, and the functions (Cython documentation,
 -- "Language Basics", "Sharing Declarations Between Cython Modules").
-use Rattle.std.specs.Prelude.{List, [], ◌∷◌, map}
+use Rattle.std.specs.Prelude.{List, [], ◌∷◌, ◌++◌, Option, Some, None, map}
 use Rattle.std.specs.List.{flat_map}
 use denote.Ref.{Bor}
 use Rattle.cy_tree.specs.declared.decl.Cimport.{Cimport}

@@ -1,5 +1,5 @@
 -- What each node of a file says of names: itself, and with the nodes inside it. The project's own.
-use Rattle.std.specs.Prelude.{List, [], ◌∷◌, ◌++◌, map}
+use Rattle.std.specs.Prelude.{List, [], ◌∷◌, ◌++◌, Option, Some, None, map}
 use Rattle.cy_tree.specs.declared.content.Content.{Content}
 use Rattle.cy_tree.specs.declared.content.Content.TheVariants as content
 use Rattle.cy_tree.specs.declared.decl.CFunction.{CFunction}

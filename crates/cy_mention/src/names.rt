@@ -8,6 +8,7 @@ ghost use Rattle.cy_mention.specs.Shown.{all_shown, shown};
 use crate::mention::{Mention, note_all};
 use cy_base::OutOfMemory;
 use cy_tree::{Cimport, Declared, Ident, ImportItem, Node, Param, PxdItem, Stmt, Top};
+
 use std::alloc::Global;
 
 type Names<'a> = Vec<&'a Ident>;

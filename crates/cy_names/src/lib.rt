@@ -3,8 +3,6 @@
 
 mod lookup;
 mod naming;
-#[cfg(test)]
-mod tests;
 
 pub use lookup::resolve;
 pub use naming::resolve_set;

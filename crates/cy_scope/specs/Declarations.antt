@@ -1,6 +1,6 @@
 -- What modules and functions declare, and what each name means there (Cython documentation, "Language Basics", "Sharing
 -- Declarations Between Cython Modules"; Python language reference, 4.2).
-use Rattle.std.specs.Prelude.{ℕ, suc, ◌+◌, not, List, [], ◌∷◌, ◌++◌, Option, Some, None, map, length, slice_get}
+use Rattle.std.specs.Prelude.{ℕ, suc, ◌+◌, Bool, not, List, [], ◌∷◌, ◌++◌, Option, Some, None, map, length, slice_get, bytes_eq}
 use Rattle.std.specs.List.{filter, flat_map}
 use Rattle.cy_tree.specs.declared.decl.Cimport.{Cimport}
 use Rattle.cy_tree.specs.declared.decl.Cimport.TheVariants as cimport
@@ -12,7 +12,7 @@ use Rattle.cy_tree.specs.declared.set.NameKind.{NameKind}
 use Rattle.cy_tree.specs.declared.set.NameKind.TheVariants as kind
 use Rattle.cy_tree.specs.declared.set.SourceSet.{SourceSet}
 use Rattle.cy_tree.specs.declared.types.Ident.{Ident}
-use Rattle.cy_tree.specs.Functions.{Function, functions_of}
+use Rattle.cy_tree.specs.Functions.{Function, functions, functions_of}
 use Rattle.name_table.specs.Entries.{Entry, firsts, is_among, kind_among, numbered, once, texts}
 use Rattle.cy_mention.specs.Mentions.{Mention, alias_or}
 use Rattle.cy_mention.specs.Modules.{class_names, def_names, item_cimports, made_global, made_local, mentions_of, parameters, params_of, shared_names, top_cimports, variables_of}

@@ -6,7 +6,9 @@ ghost use Rattle.cy_scope.specs.Declarations.{c_names, classes_from, function_en
 ghost use Rattle.name_table.specs.EntriesShown.{entries_shown};
 
 use cy_base::OutOfMemory;
-use cy_mention::{note_all_variables, note_class_names, note_def_names, note_functions};
+use cy_mention::{
+    note_all_variables, note_class_names, note_def_names, note_functions,
+};
 use cy_tree::{ClassId, FnId, Ident, NameKind, Top};
 use name_table::{NamedEntry, number};
 use std::alloc::Global;
@@ -53,7 +55,12 @@ fn note_function<'a>(module: u32, count: usize, top: &'a Top, out: &mut Entries<
     Ok(())
 }
 
-fn note_c_functions<'a>(alloc: Global, module: u32, tops: &'a [Top], out: &mut Entries<'a>) -> Noted
+fn note_c_functions<'a>(
+    alloc: Global,
+    module: u32,
+    tops: &'a [Top],
+    out: &mut Entries<'a>,
+) -> Noted
     ensures { OnOk result (entries_shown out.new.items ≡ entries_shown out.old.items ++ functions_from «module» 0 tops.now) }
 {
     let mut before = Vec::new(alloc);
@@ -74,12 +81,7 @@ pub(crate) fn note_all_plain<'a>(names: &[&'a Ident], out: &mut Entries<'a>) -> 
 }
 
 // Variables, functions and classes.
-pub(crate) fn note_c_names<'a>(
-    alloc: Global,
-    module: u32,
-    tops: &'a [Top],
-    out: &mut Entries<'a>,
-) -> Noted
+pub(crate) fn note_c_names<'a>(alloc: Global, module: u32, tops: &'a [Top], out: &mut Entries<'a>) -> Noted
     ensures { OnOk result (entries_shown out.new.items ≡ entries_shown out.old.items ++ c_names «module» tops.now) }
 {
     let mut variables = Vec::new(alloc);

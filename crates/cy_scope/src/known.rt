@@ -142,11 +142,7 @@ fn note_items<'a>(
     ensures { OnOk result (entries_shown out.new.items ≡ entries_shown out.old.items ++ map (item_from known.now outer.now) all.now) }
 {
     for item in all {
-        note_entry(
-            bound_name(item),
-            or_global(kind_from(known, outer, item)),
-            out,
-        )?;
+        note_entry(bound_name(item), or_global(kind_from(known, outer, item)), out)?;
     }
     Ok(())
 }
@@ -173,7 +169,11 @@ fn note_all_cimported<'a>(known: &Known, all: &[&'a Cimport], out: &mut Entries<
 }
 
 // The cimports of a module: those of its `.pxd`, then those of its `.pyx`.
-fn note_cimports<'a>(set: &'a SourceSet, files: &ModuleFiles, out: &mut Vec<&'a Cimport>) -> Noted
+fn note_cimports<'a>(
+    set: &'a SourceSet,
+    files: &ModuleFiles,
+    out: &mut Vec<&'a Cimport>,
+) -> Noted
     ensures { OnOk result (cimports out.new.items ≡ cimports out.old.items ++ cimports_of set.now files.now) }
 {
     note_item_cimports(items(set, files), out)?;

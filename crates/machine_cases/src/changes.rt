@@ -123,24 +123,16 @@ fn function(alloc: Global, change: &str) -> Result<CFunction> {
     })
 }
 
-// The function in place of the module's.
-fn replaced(alloc: Global, change: &str) -> Result<CFunction> {
-    if change == "asks" {
-        return long::asking(alloc);
-    }
-    match change.strip_prefix("loop ") {
-        Some(size) => long::function(alloc, size.parse::<u32>()?),
-        None => function(alloc, change),
-    }
-}
-
 /// The files with the change, and as they are where none is named.
 pub fn changed(alloc: Global, files: Vec<CFile>, change: &str) -> Result<Vec<CFile>> {
     let mut files = files;
     if change.is_empty() {
         return Ok(files);
     }
-    let function = replaced(alloc, change)?;
+    let function = match change.strip_prefix("loop ") {
+        Some(size) => long::function(alloc, size.parse::<u32>()?)?,
+        None => function(alloc, change)?,
+    };
     let file = files.get_mut(1).ok_or(anyhow!("no file of the module"))?;
     if file.items.len() <= FUNCTION_PLACE {
         return Err(anyhow!("no function"));

@@ -1,7 +1,7 @@
 //! Runs the machine over the C of thin files and over C with one change, and prints each trace, how the run came to
 //! its end, which one more step doesn't change, and after how many steps. The cases stand in the files that the words
 //! name, and the expected lines in the file `stdout`. A case is a line: a name, a change, a source and a script, and
-//! the most steps where the usual don't do, with `|` between them; of such a case the events are only counted.
+//! the most steps where the usual don't do, with `|` between them.
 #![tactic(auto)]
 
 mod changes;
@@ -11,7 +11,7 @@ mod show;
 
 use anyhow::{Result, anyhow};
 use c_mach::Machine;
-use c_state::{Entry, Event, Step};
+use c_state::{Entry, Step};
 use std::alloc::Global;
 use std::rt::Runtime;
 use std::{env, fs};
@@ -20,27 +20,16 @@ use thin_sound::thin;
 // More steps than any case takes.
 const MOST_STEPS: u64 = 1_000;
 
-fn told<R: Runtime + AllocGlobal>(rt: &R, events: &[Event], only_counts: bool) -> Result<()> {
-    if only_counts {
-        println!(rt; "{} events", events.len())?;
-        return Ok(());
-    }
-    for event in events {
-        println!(rt; "{}", show::event(rt.alloc(), event)?)?;
-    }
-    Ok(())
-}
-
 fn finished<R: Runtime + AllocGlobal>(
     rt: &R,
     machine: &mut Machine,
     script: &[Entry],
-    given: Option<u64>,
+    most: u64,
 ) -> Result<()> {
     let mut events = Vec::new(rt.alloc());
     let mut steps: u64 = 0;
     let mut answer = Step::Went;
-    for _ in 0..given.unwrap_or(MOST_STEPS) {
+    for _ in 0..most {
         answer = machine.step(script, &mut events);
         if answer != Step::Went {
             break;
@@ -53,7 +42,9 @@ fn finished<R: Runtime + AllocGlobal>(
     {
         println!(rt; "another step after the last")?;
     }
-    told(rt, events.as_slice(), given.is_some())?;
+    for event in events.iter() {
+        println!(rt; "{}", show::event(rt.alloc(), event)?)?;
+    }
     println!(rt; "{}", show::end(rt.alloc(), answer, steps)?)?;
     Ok(())
 }
@@ -64,16 +55,16 @@ fn run_case<R: Runtime + AllocGlobal>(rt: &R, line: &str) -> Result<()> {
     let change = parts.next().ok_or(anyhow!("no change"))?;
     let source = parts.next().ok_or(anyhow!("no source"))?;
     let script = read::script(rt.alloc(), parts.next().ok_or(anyhow!("no script"))?)?;
-    let given = match parts.next() {
-        Some(word) => Some(word.parse::<u64>()?),
-        None => None,
+    let most = match parts.next() {
+        Some(word) => word.parse::<u64>()?,
+        None => MOST_STEPS,
     };
     println!(rt; "== {name}")?;
     let text = format!(in rt.alloc(); "{source}\n")?;
     let files = thin(rt.alloc(), b"m", text.as_bytes())?.ok_or(anyhow!("not thin"))?;
     let files = changes::changed(rt.alloc(), files, change)?;
     let mut machine = Machine::new(rt.alloc(), files)?;
-    finished(rt, &mut machine, script.as_slice(), given)
+    finished(rt, &mut machine, script.as_slice(), most)
 }
 
 fn main(rt: HostRuntime) -> Result<()> {

@@ -1,5 +1,6 @@
 -- What a module breaks, from what is made of it.
 use Rattle.std.proofs.Common.{◌≡◌, List, ap, ◌∙◌}
+use Rattle.cy_base.specs.declared.place.Refusal.{Refusal}
 use Rattle.cy_scope.specs.declared.known.Known.{Known}
 use Rattle.cy_scope.specs.Declarations.{module_names}
 use Rattle.cy_scope.specs.Files.{Module, items, tops}

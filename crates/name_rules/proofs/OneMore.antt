@@ -1,5 +1,5 @@
 -- The first of a list and one more.
-use Rattle.std.proofs.Common.{◌≡◌, ◌⊎◌, inl, inr, ⊎_elim, List, [], ◌∷◌, ◌++◌, refl, ◌∙◌, subst, arith}
+use Rattle.std.proofs.Common.{◌≡◌, ℕ, ◌<◌, ◌⊎◌, inl, inr, ⊎_elim, List, [], ◌∷◌, ◌++◌, refl, ap, sym, ◌∙◌, subst, arith}
 use Rattle.cy_base.specs.declared.place.Refusal.{Refusal}
 use Rattle.name_rules.specs.First.{IsBefore, IsOneOf, IsFirst}
 

@@ -1,6 +1,6 @@
 -- The rules on names, and where they are broken (Cython documentation, "Language Basics", "Sharing Declarations Between
 -- Cython Modules"; the project's own). An offset is the first byte of the name that is spoken of.
-use Rattle.std.specs.Prelude.{ℕ, Bool, true, false, ◌||◌, if◌then◌else◌, List, [], ◌∷◌, ◌++◌, Option, Some, None, is_none, codes, bytes_eq}
+use Rattle.std.specs.Prelude.{◌≡◌, ℕ, Bool, true, false, ◌||◌, if◌then◌else◌, List, [], ◌∷◌, ◌++◌, Option, Some, None, is_none, map, codes, bytes_eq}
 use Rattle.std.specs.List.{flat_map}
 use Rattle.cy_base.specs.declared.place.Phase.TheVariants as phase
 use Rattle.cy_base.specs.declared.place.Refusal.{Refusal}
@@ -24,14 +24,12 @@ use Rattle.cy_tree.specs.declared.types.Ident.{Ident}
 use Rattle.cy_tree.specs.declared.types.TypeName.{TypeName}
 use Rattle.cy_tree.specs.declared.types.TypeName.TheVariants as type
 use Rattle.cy_tree.specs.Functions.{Function, functions}
-use Rattle.name_table.specs.Entries.{Entry, is_among, kind_among, texts}
+use Rattle.name_table.specs.Entries.{Entry, is_among, kind_among}
 use Rattle.cy_mention.specs.Mentions.{Mention, Target, Globals, TypeUse}
 use Rattle.cy_mention.specs.Modules.{cimport_names, declared_by, item_cimports, item_names, items_said, mentions_of, module_said, parameters, params_of, shared_names, top_cimports, top_names}
 use Rattle.cy_scope.specs.declared.known.Known.{Known}
 use Rattle.cy_scope.specs.Files.{Module, items, modules, tops}
 use Rattle.cy_scope.specs.Declarations.{function_names, kind_from, kind_through, known_of, module_names, seen}
-use Rattle.name_rules.specs.declared.given.Classes.{Classes}
-use Rattle.name_rules.specs.Given.{classes_of, is_field, members_of, pxd_classes}
 
 abbrev pub breaks : ℕ → ℕ → Ident → Refusal
 breaks file rule i = record { rule = record { phase = phase.Name; number = rule }; file = file; offset = i.at }
@@ -80,25 +78,6 @@ top_second file _ = []
 
 abbrev pub declared_in : Function → List Ident
 declared_in f = parameters (params_of f) ++ flat_map declared_by (mentions_of f)
-
--- names that are declared already
-abbrev pub name_refusal : ℕ → List (List ℕ) → Ident → List Refusal
-name_refusal file names i = breaks_if (is_among names i.text) file 1 i
-
--- A method of the `.pyx` whose name is a field of the `.pxd` class, and a field whose name is any member of it, is declared a second
--- time; a method that the `.pxd` class declares as one is given.
-abbrev pub given_refusals : ℕ → List Entry → Member → List Refusal
-given_refusals file declared (member.Def d) = breaks_if (is_field (kind_among declared d.name.text)) file 1 d.name
-given_refusals file declared (member.Method f) = breaks_if (is_field (kind_among declared f.heading.name.text)) file 1 f.heading.name
-given_refusals file declared m = flat_map (name_refusal file (texts declared)) (member_names m)
-
-abbrev pub given_in : ℕ → Option (List Entry) → List Member → List Refusal
-given_in file None ms = []
-given_in file (Some declared) ms = flat_map (given_refusals file declared) ms
-
-abbrev pub top_given : ℕ → Classes → Top → List Refusal
-top_given file classes (top.Class c) = given_in file (members_of classes c.name.text) c.members
-top_given file classes _ = []
 
 -- ---- rules 2 and 3: a type name that names no type, and a target that is a C function, class or cimported module
 
@@ -175,14 +154,16 @@ pxd_refusals file known names is =
     ++ (flat_map (mention_refusals file known [] names) (items_said is)
     ++ flat_map (cimport_refusals file known) (flat_map item_cimports is)))
 
+abbrev pub name_refusal : ℕ → List (List ℕ) → Ident → List Refusal
+name_refusal file names i = breaks_if (is_among names i.text) file 1 i
+
 -- The second declarations in its `.pyx`. What the `.pxd` declares and the `.pyx` gives is one declaration: a name that the
 -- `.pxd` cimports can't be declared again, and one that it declares can't be cimported.
 abbrev pub pyx_second : ℕ → List PxdItem → List Top → List Refusal
 pyx_second file is ts =
     second file (seen (flat_map cimport_names (flat_map item_cimports is))) (flat_map top_names ts)
     ++ (flat_map (name_refusal file (seen (flat_map shared_names is))) (flat_map cimport_names (flat_map top_cimports ts))
-    ++ (flat_map (top_second file) ts
-    ++ flat_map (top_given file (classes_of (flat_map pxd_classes is))) ts))
+    ++ flat_map (top_second file) ts)
 
 abbrev pub pyx_refusals : ℕ → Known → List Entry → List PxdItem → List Top → List Refusal
 pyx_refusals file known names is ts =

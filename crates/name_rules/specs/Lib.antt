@@ -1,4 +1,2 @@
 pub mod Breaches
 pub mod First
-pub mod Given
-pub mod GivenShown

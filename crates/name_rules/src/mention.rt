@@ -85,12 +85,7 @@ fn judge_target(here: Here<'_>, locals: &NameTable, name: &Ident, out: &mut Refu
     Ok(())
 }
 
-fn judge_mention(
-    here: Here<'_>,
-    locals: &NameTable,
-    mention: Mention<'_>,
-    out: &mut Refusals,
-) -> Noted
+fn judge_mention(here: Here<'_>, locals: &NameTable, mention: Mention<'_>, out: &mut Refusals) -> Noted
     ensures { OnOk result (out.new.items ≡ out.old.items ++ mention_refusals here.entry.file here.entry.known.now locals.now here.entry.names.now (shown mention.entry)) }
 {
     match mention {

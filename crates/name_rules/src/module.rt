@@ -4,20 +4,21 @@ ghost use Rattle.std.specs.List.{flat_map};
 ghost use Rattle.cy_mention.specs.Modules.{cimport_names, idents, item_cimports, item_names, items_said, module_said, shared_names, top_cimports, top_names};
 ghost use Rattle.cy_scope.specs.Declarations.{seen};
 ghost use Rattle.cy_tree.specs.Functions.{functions};
-ghost use Rattle.name_rules.specs.Breaches.{cimport_refusals, files_refusals, function_refusals, mention_refusals, module_refusals, name_refusal, pxd_refusals, pyx_refusals, pyx_second, refusals_of_pxd, refusals_with, second};
-ghost use Rattle.name_table.specs.Entries.{texts};
+ghost use Rattle.name_rules.specs.Breaches.{breaks_if, cimport_refusals, files_refusals, function_refusals, mention_refusals, module_refusals, name_refusal, pxd_refusals, pyx_refusals, pyx_second, refusals_of_pxd, refusals_with, second};
+ghost use Rattle.name_table.specs.Entries.{is_among, texts};
 
 use crate::function::judge_functions;
-use crate::given::{judge_all_given, judge_each_name};
 use crate::mention::{Here, judge_cimports, judge_mentions};
-use crate::second::{Noted, Refusals, judge_items, judge_names, judge_second, judge_tops};
+use crate::second::{
+    Noted, Refusals, breaks, judge_items, judge_names, judge_second, judge_tops,
+};
 use cy_base::{FileId, OutOfMemory};
 use cy_mention::{
     note_all_cimport_names, note_all_functions, note_all_top_names, note_item_cimports,
     note_item_names, note_items, note_module, note_shared_names, note_top_cimports,
 };
 use cy_scope::{Known, items, module_names, seen, tops};
-use cy_tree::{ModuleFiles, PxdItem, SourceSet, Top};
+use cy_tree::{Ident, ModuleFiles, PxdItem, SourceSet, Top};
 use name_table::{NameTable, number};
 use std::alloc::Global;
 
@@ -41,12 +42,7 @@ fn judge_items_said(alloc: Global, here: Here<'_>, items: &[PxdItem], out: &mut 
     judge_mentions(here, &locals, mentions.as_slice(), out)
 }
 
-fn judge_item_cimports(
-    alloc: Global,
-    here: Here<'_>,
-    items: &[PxdItem],
-    out: &mut Refusals,
-) -> Noted
+fn judge_item_cimports(alloc: Global, here: Here<'_>, items: &[PxdItem], out: &mut Refusals) -> Noted
     ensures { OnOk result (out.new.items ≡ out.old.items ++ flat_map (cimport_refusals here.entry.file here.entry.known.now) (flat_map item_cimports items.now)) }
 {
     let mut cimports = Vec::new(alloc);
@@ -101,6 +97,29 @@ fn judge_top_names(
     judge_second(alloc, file, &mut before, names.as_slice(), out)
 }
 
+fn judge_name(file: FileId, shared: &NameTable, name: &Ident, out: &mut Refusals) -> Noted
+    ensures { OnOk result (out.new.items ≡ out.old.items ++ name_refusal file (texts shared.now) name.now) }
+{
+    if shared.has(name.text.bytes()) {
+        out.push(breaks(file, 1, name))?;
+    }
+    Ok(())
+}
+
+fn judge_each_name(
+    file: FileId,
+    shared: &NameTable,
+    names: &[&Ident],
+    out: &mut Refusals,
+) -> Noted
+    ensures { OnOk result (out.new.items ≡ out.old.items ++ flat_map (name_refusal file (texts shared.now)) (idents names.now)) }
+{
+    for name in names {
+        judge_name(file, shared, *name, out)?;
+    }
+    Ok(())
+}
+
 // The cimports of names that the `.pxd` declares.
 fn judge_cimported(
     alloc: Global,
@@ -131,8 +150,7 @@ fn judge_pyx_second(
 {
     judge_top_names(alloc, file, items, tops, out)?;
     judge_cimported(alloc, file, items, tops, out)?;
-    judge_tops(alloc, file, tops, out)?;
-    judge_all_given(alloc, file, items, tops, out)
+    judge_tops(alloc, file, tops, out)
 }
 
 fn judge_module_said(alloc: Global, here: Here<'_>, tops: &[Top], out: &mut Refusals) -> Noted
@@ -192,7 +210,11 @@ fn judge_some_pxd(
     let Some(file) = file else {
         return Ok(());
     };
-    let here = Here { file, known, names };
+    let here = Here {
+        file,
+        known,
+        names,
+    };
     judge_pxd(alloc, here, items, out)
 }
 
@@ -207,7 +229,11 @@ fn judge_some_pyx(
 ) -> Noted
     ensures { OnOk result (out.new.items ≡ out.old.items ++ pyx_refusals file known.now names.now items.now tops.now) }
 {
-    let here = Here { file, known, names };
+    let here = Here {
+        file,
+        known,
+        names,
+    };
     judge_pyx(alloc, here, items, tops, out)
 }
 

@@ -69,7 +69,7 @@ fn note_each<'a>(names: &'a [Ident], out: &mut Names<'a>) -> Noted
     Ok(())
 }
 
-pub(crate) fn note_member<'a>(member: &'a Member, out: &mut Names<'a>) -> Noted
+fn note_member<'a>(member: &'a Member, out: &mut Names<'a>) -> Noted
     ensures { OnOk result (idents out.new.items ≡ idents out.old.items ++ member_names member.now) }
 {
     match member {

@@ -1,5 +1,5 @@
 -- A map's entries and what they show.
-use Rattle.std.proofs.Common.{◌≡◌, ℕ, List, [], ◌∷◌, ◌++◌, Option, Some, is_some, Bool, true, false, ◌||◌, if◌then◌else◌, refl, ap, sym, ◌∙◌, arith}
+use Rattle.std.proofs.Common.{◌≡◌, ℕ, List, [], ◌∷◌, ◌++◌, Option, Some, None, is_some, Bool, true, false, ◌||◌, if◌then◌else◌, refl, ap, sym, ◌∙◌, arith, rules}
 use Rattle.std.specs.Prelude.{bytes_eq}
 use Rattle.std.specs.Map.{lookup}
 use Rattle.std.specs.declared.vec.Vec.{Vec}
@@ -40,7 +40,7 @@ insert-new {Z} (e ∷ es) key kind missing =
     let here = bytes_eq key.items e.0.items in
     let others = is_among (texts (shown es)) key.items in
     put-by e kind es (insert_entry (λ (x y : Vec ℕ Z). bytes_eq x.items y.items) es key kind) (shown es ++ (key.items, kind) ∷ []) here
-    (or-left here others missing) (insert-new es key kind (or-right here others missing))
+      (or-left here others missing) (insert-new es key kind (or-right here others missing))
 
 pub added : {Z : Type 0} (es new : List (Vec ℕ Z × NameKind)) (key : Vec ℕ Z) (kind : NameKind) (name : List ℕ) (table : List Entry)
     → shown es ≡ table → key.items ≡ name → is_among (texts table) name ≡ false
@@ -48,7 +48,7 @@ pub added : {Z : Type 0} (es new : List (Vec ℕ Z × NameKind)) (key : Vec ℕ 
 added {Z} es new key kind name table seen items missing so =
     ap (λ (is : List (Vec ℕ Z × NameKind)). shown is) so
     ∙ insert-new es key kind
-    (ap (λ (n : List ℕ). is_among (texts (shown es)) n) items ∙ ap (λ (t : List Entry). is_among (texts t) name) seen ∙ missing)
+      (ap (λ (n : List ℕ). is_among (texts (shown es)) n) items ∙ ap (λ (t : List Entry). is_among (texts t) name) seen ∙ missing)
     ∙ ap (λ (t : List Entry). t ++ (key.items, kind) ∷ []) seen
     ∙ ap (λ (n : List ℕ). table ++ (n, kind) ∷ []) items
     ∙ ap (λ (b : Bool). if b then table else table ++ (name, kind) ∷ []) (sym missing)

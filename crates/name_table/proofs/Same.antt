@@ -1,6 +1,6 @@
 -- What a name means among first entries is what it means among all.
-use Rattle.std.proofs.Common.{◌≡◌, ℕ, List, [], ◌∷◌, ◌++◌, Option, Some, Bool, true, false, ◌||◌, if◌then◌else◌, refl, ap, sym, ◌∙◌, arith}
-use Rattle.std.specs.Prelude.{bytes_eq}
+use Rattle.std.proofs.Common.{◌≡◌, ℕ, List, [], ◌∷◌, ◌++◌, Option, Some, None, Bool, true, false, ◌||◌, if◌then◌else◌, refl, ap, sym, ◌∙◌, arith}
+use Rattle.std.specs.Prelude.{bytes_eq, IsTrue}
 use Rattle.std.specs.Cmp.Lexicographic.{bytes_decides}
 use Rattle.cy_tree.specs.declared.set.NameKind.{NameKind}
 use Rattle.name_table.specs.Entries.{Entry, firsts, is_among, kind_among}
@@ -15,7 +15,7 @@ among-more : (names : List (List ℕ)) (x name : List ℕ) → is_among names na
 among-more [] x name _ other = or-neither (bytes_eq name x) false other refl
 among-more (y ∷ ys) x name missing other =
     or-neither (bytes_eq name y) (is_among (ys ++ x ∷ []) name) (or-left (bytes_eq name y) (is_among ys name) missing)
-    (among-more ys x name (or-right (bytes_eq name y) (is_among ys name) missing) other)
+      (among-more ys x name (or-right (bytes_eq name y) (is_among ys name) missing) other)
 
 -- an entry of which the name was there before doesn't count, for any other name
 passed : (t : Bool) (before : List (List ℕ)) (x name : List ℕ) (this rest : Option NameKind)
@@ -44,7 +44,7 @@ same-behind : (es : List Entry) (before : List (List ℕ)) (name : List ℕ) →
 same-behind [] before name missing = refl
 same-behind (e ∷ es) before name missing =
     one-step (is_among before e.0) before e es name refl missing (same-behind es before name missing)
-    (λ (other : bytes_eq name e.0 ≡ false). same-behind es (before ++ e.0 ∷ []) name (among-more before e.0 name missing other))
+      (λ (other : bytes_eq name e.0 ≡ false). same-behind es (before ++ e.0 ∷ []) name (among-more before e.0 name missing other))
 
 pub same : (entries : List Entry) → SaySame entries
 same entries = λ name. same-behind entries [] name refl

@@ -1,6 +1,6 @@
 -- What one more entry does to a table.
 use denote.Ref.{Bor}
-use Rattle.std.proofs.Common.{◌≡◌, ℕ, suc, drop, ◌+◌, length, List, [], ◌∷◌, ◌++◌, Bool, true, false, if◌then◌else◌, refl, ap, sym, ◌∙◌, append_assoc, arith}
+use Rattle.std.proofs.Common.{◌≡◌, ℕ, zero, suc, drop, ◌+◌, length, List, [], ◌∷◌, ◌++◌, map, Bool, true, false, if◌then◌else◌, refl, ap, sym, ◌∙◌, append_assoc, arith}
 use Rattle.std.proofs.lemmas.List.{map-append}
 use Rattle.cy_tree.specs.declared.set.NameKind.TheVariants as kind
 use Rattle.name_table.specs.EntriesShown.{slices}
@@ -26,7 +26,7 @@ numbered-more i [] x = let e : i ≡ i + 0 = omega arith in ap (λ (n : ℕ). (x
 numbered-more i (y ∷ ys) x =
     let e : suc i + length ys ≡ i + suc (length ys) = omega arith in
     ap (λ (es : List Entry). (y, kind.Local i) ∷ es)
-    (numbered-more (suc i) ys x ∙ ap (λ (n : ℕ). numbered (suc i) ys ++ (x, kind.Local n) ∷ []) e)
+      (numbered-more (suc i) ys x ∙ ap (λ (n : ℕ). numbered (suc i) ys ++ (x, kind.Local n) ∷ []) e)
 
 texts-length : (table : List Entry) → length (texts table) ≡ length table
 texts-length [] = refl
@@ -62,11 +62,10 @@ local-step table x xs = local-by table x xs (is_among (texts table) x)
 pub locals-step : (names : List (Bor (List ℕ))) (i j : ℕ) (x : Bor (List ℕ)) (table new : List Entry) (all : List (List ℕ))
     → j ≡ suc i → drop i names ≡ x ∷ drop (suc i) names → table ≡ numbered 0 (texts table) → all ≡ texts table ++ once (texts table) (slices (drop i names))
     → new ≡ with_local table x.now → (new ≡ numbered 0 (texts new)) × (all ≡ texts new ++ once (texts new) (slices (drop j names)))
-locals-step names i j x table new all follows at so whole e = (
-  e ∙ local-numbered table x.now so ∙ ap (λ (t : List Entry). numbered 0 (texts t)) (sym e),
-  whole
-      ∙ ap (λ (ns : List (Bor (List ℕ))). texts table ++ once (texts table) (slices ns)) at
-      ∙ local-step table x.now (slices (drop (suc i) names))
-      ∙ ap (λ (t : List Entry). texts t ++ once (texts t) (slices (drop (suc i) names))) (sym e)
-      ∙ ap (λ (n : ℕ). texts new ++ once (texts new) (slices (drop n names))) (sym follows),
-)
+locals-step names i j x table new all follows at so whole e =
+    (e ∙ local-numbered table x.now so ∙ ap (λ (t : List Entry). numbered 0 (texts t)) (sym e),
+     whole
+     ∙ ap (λ (ns : List (Bor (List ℕ))). texts table ++ once (texts table) (slices ns)) at
+     ∙ local-step table x.now (slices (drop (suc i) names))
+     ∙ ap (λ (t : List Entry). texts t ++ once (texts t) (slices (drop (suc i) names))) (sym e)
+     ∙ ap (λ (n : ℕ). texts new ++ once (texts new) (slices (drop n names))) (sym follows))

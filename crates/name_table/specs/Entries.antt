@@ -1,7 +1,8 @@
 -- Lists of names, each with what it means. The project's own.
-use Rattle.std.specs.Prelude.{ℕ, suc, Bool, if◌then◌else◌, List, [], ◌∷◌, ◌++◌, Option, Some, None, map, length}
+use Rattle.std.specs.Prelude.{ℕ, suc, Bool, ◌||◌, if◌then◌else◌, List, [], ◌∷◌, ◌++◌, Option, Some, None, map, length}
 use Rattle.std.specs.List.{list_any}
 use Rattle.std.specs.Str.{bytes_eq}
+
 use Rattle.cy_tree.specs.declared.set.NameKind.{NameKind}
 use Rattle.cy_tree.specs.declared.set.NameKind.TheVariants as kind
 

@@ -84,7 +84,10 @@ impl NameTable {
     }
 
     /// The table of entries: each name once, with what its first entry says.
-    pub fn from_entries(alloc: Global, entries: &[NamedEntry<'_>]) -> Result<NameTable, OutOfMemory>
+    pub fn from_entries(
+        alloc: Global,
+        entries: &[NamedEntry<'_>],
+    ) -> Result<NameTable, OutOfMemory>
         ensures { IfOk result (λ table. table ≡ firsts [] (entries_shown entries.now)) }
     {
         let mut table = NameTable::new(alloc);

@@ -34,7 +34,7 @@ end_of tree (x ∷ []) = rw (same_end (class_of x.kind)) (go (of is_end x))
     go false = refl
 end_of tree (x ∷ y ∷ us) = rw (same_end (class_of x.kind)) (go (of is_end x))
   where
-    go : (c : Bool) → and_then (and_then {A = Token} (cond c (did x (y ∷ us)) (bad unexpected (x ∷ y ∷ us))) (λ x r. did tree r)) at_its_end ≡ and_then {A = Token} (cond c (bad unexpected (y ∷ us)) (bad unexpected (x ∷ y ∷ us))) (λ x r. did tree r)
+    go : (c : Bool) → and_then (and_then (cond c (did x (y ∷ us)) (bad unexpected (x ∷ y ∷ us))) (λ x r. did tree r)) at_its_end ≡ and_then (cond c (bad unexpected (y ∷ us)) (bad unexpected (x ∷ y ∷ us))) (λ x r. did {T = Token} tree r)
     go true = refl
     go false = refl
 
@@ -42,8 +42,14 @@ module _ (A : Type 0) (made : List A → Content) (q : Reader Token (List A)) (t
   abbrev file : Reader Token Content
   file = read_both (λ all x. made all) q (read_one (of words.is_end) itself)
 
-  pub behind : (all : List A) (us : List Token) → q ts ≡ did all us → read_whole file ts ≡ and_then (read_alone us) (λ x r. did (made all) r)
+  behind : (all : List A) (us : List Token) → q ts ≡ did all us → read_whole file ts ≡ and_then (read_alone us) (λ x r. did (made all) r)
   behind all us h = ap (λ o. and_then o at_its_end) (both_then (λ all x. made all) q (read_one (of words.is_end) itself) ts us all (read_one (of words.is_end) itself us) h refl) ∙ end_of (made all) us
+
+  pub whole : (all : List A) (us : List Token) → q ts ≡ did all us → (x : Token) × (read_alone us ≡ did x []) → read_whole file ts ≡ did (made all) []
+  whole all us h e = behind all us h ∙ ap (λ o. and_then o (λ x r. did (made all) r)) e.1
+
+  pub cut : (all : List A) (us rest : List Token) → q ts ≡ did all us → read_alone us ≡ bad unexpected rest → read_whole file ts ≡ bad unexpected rest
+  cut all us rest h e = behind all us h ∙ ap (λ o. and_then o (λ x r. did (made all) r)) e
 
   pub fails : (e : Fault) (rest : List Token) → q ts ≡ bad e rest → read_whole file ts ≡ bad e rest
   fails e rest h = ap (λ o. and_then o at_its_end) (both_at_first (λ all x. made all) q (read_one (of words.is_end) itself) ts rest e h)

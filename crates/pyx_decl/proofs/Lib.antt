@@ -1,4 +1,3 @@
 pub mod Other
 pub mod EndOf
 pub mod Whole
-pub mod Known

@@ -1,6 +1,6 @@
 -- From what is read of a file to what is answered.
 use Rattle.std.proofs.Common.{◌≡◌, ℕ, ◌⊎◌, inl, inr, List, [], ◌∷◌, refl, sym, ◌∙◌, ap, subst}
-use Rattle.std.specs.Prelude.{◌≢◌, Result, Ok, Err, IfOk, IfErr}
+use Rattle.std.specs.Prelude.{◌≢◌}
 use Rattle.cy_base.specs.declared.place.Refusal.{Refusal}
 use Rattle.cy_base.specs.declared.error.Stop.{Stop}
 use Rattle.cy_base.specs.declared.error.Stop.TheVariants as stop
@@ -29,16 +29,6 @@ module _ (L : Form Token Content) (p : Reader Token Content) (ts : List Token) (
 
   pub the_tree : (tree other : Content) → read_whole p ts ≡ did tree [] → Whole L ts other → tree ≡ other
   the_tree tree other h w = let e = once (did tree []) (did other []) h (refl, w) in cc
-
-  -- what making the tree answers
-  pub made_tree : (content : Content) (r : Result Content Stop) → read_whole p ts ≡ did content [] → IfOk r (λ tree. tree ≡ content) → IfOk r (λ tree. Whole L ts tree)
-  made_tree content (Ok tree) h ok = let P : Content → Type 0 = λ z. Whole L ts z in subst P (sym ok) (is_tree content h)
-  made_tree content (Err e) h ok = ok
-
-  pub made_same : (content other : Content) (r : Result Content Stop) → read_whole p ts ≡ did content [] → IfOk r (λ tree. tree ≡ content) → IfErr r (λ e. e ≡ stop.Memory) → Whole L ts other
-      → (r ≡ Ok other) ⊎ (r ≡ Err stop.Memory)
-  made_same content other (Ok tree) h ok err w = inl (ap Ok (ok ∙ the_tree content other h w))
-  made_same content other (Err e) h ok err w = inr (ap Err err)
 
   module _ (file : ℕ) where
     pub no_breach : (tree : Content) (refused : Refusal) → read_whole p ts ≡ did tree [] → IsFirstBreach L file ts refused → ⊥

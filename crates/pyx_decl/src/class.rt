@@ -155,12 +155,7 @@ fn fields(alloc: Global, input: &mut Input<'_>, at: u32, typed: Typed) -> Result
 }
 
 #[tactic(auto, unfolding(decl_grammar::specs::Reading::read_behind_member, forms::specs::Readers::read_or))]
-fn behind_member(
-    alloc: Global,
-    input: &mut Input<'_>,
-    at: u32,
-    typed: Typed,
-) -> Result<Member, Halt>
+fn behind_member(alloc: Global, input: &mut Input<'_>, at: u32, typed: Typed) -> Result<Member, Halt>
     ensures { Reads (and_then (spec.read_behind_member in_brackets input.old) (λ f r. did (f at typed) r)) result input.new }
 {
     if input.sees(ExprSet::OpenParenthesis) {
@@ -282,10 +277,7 @@ fn behind_colon(alloc: Global, input: &mut Input<'_>) -> Result<Items<Member>, H
 }
 
 #[tactic(auto, unfolding(forms::specs::Readers::read_both))]
-fn base_and_members(
-    alloc: Global,
-    input: &mut Input<'_>,
-) -> Result<(Option<ClassBase>, Items<Member>), Halt>
+fn base_and_members(alloc: Global, input: &mut Input<'_>) -> Result<(Option<ClassBase>, Items<Member>), Halt>
     ensures { Reads (read_both pair (expr_spec.read_opt set.is_open_parenthesis spec.read_base) (read_both second (read_one (of set.is_colon) itself) (spec.read_members spec.begins_member (spec.read_class_member in_brackets) node.pass_member)) input.old) result input.new }
 {
     let base = base_if_any(alloc, input)?;
@@ -294,10 +286,7 @@ fn base_and_members(
 }
 
 #[tactic(auto, unfolding(forms::specs::Readers::read_both))]
-fn behind_class(
-    alloc: Global,
-    input: &mut Input<'_>,
-) -> Result<(Ident, Option<ClassBase>, Items<Member>), Halt>
+fn behind_class(alloc: Global, input: &mut Input<'_>) -> Result<(Ident, Option<ClassBase>, Items<Member>), Halt>
     ensures { Reads (read_both pair_of_three spec.read_name (read_both pair (expr_spec.read_opt set.is_open_parenthesis spec.read_base) (read_both second (read_one (of set.is_colon) itself) (spec.read_members spec.begins_member (spec.read_class_member in_brackets) node.pass_member))) input.old) result input.new }
 {
     let name = input.ident(alloc, ExprSet::Name)?;
@@ -307,10 +296,7 @@ fn behind_class(
 
 /// Reads a class from the word `class` on.
 #[tactic(auto, unfolding(decl_grammar::specs::Reading::read_class, forms::specs::Readers::read_both))]
-pub(crate) fn class(
-    alloc: Global,
-    input: &mut Input<'_>,
-) -> Result<(Ident, Option<ClassBase>, Items<Member>), Halt>
+pub(crate) fn class(alloc: Global, input: &mut Input<'_>) -> Result<(Ident, Option<ClassBase>, Items<Member>), Halt>
     ensures { Reads (spec.read_class spec.begins_member (spec.read_class_member in_brackets) node.pass_member input.old) result input.new }
 {
     input.expect(StmtSet::Class)?;

@@ -5,8 +5,7 @@ ghost use Rattle.cy_tree.specs.declared.content.Content.{Content as Tree};
 ghost use Rattle.decl_grammar.specs.Grammar as grammar;
 ghost use Rattle.decl_grammar.specs.Reading as spec;
 ghost use Rattle.decl_grammar.specs.Files.{in_brackets, read_whole, Whole};
-ghost use Rattle.forms.specs.Readers.{and_then, did};
-ghost use Rattle.token_input.specs.Ended.{is_ended, read_alone};
+ghost use Rattle.token_input.specs.Ended.{is_ended};
 ghost use Rattle.token_input.specs.Reads.{Reads};
 ghost use Rattle.pyx_decl.specs.Answer.{IsFirstBreach, ReadsWhole};
 
@@ -18,32 +17,20 @@ use pyx_lex::Tokens;
 use std::alloc::Global;
 use token_input::{Halt, Input, classes_of};
 
-// The content, where the end alone is left.
-fn whole(input: &mut Input<'_>, content: Content) -> Result<Content, Halt>
-    ensures { ReadsWhole (and_then (read_alone input.old) (λ x r. did content r)) result input.new }
-{
-    match input.end() {
-        Ok(()) => Ok(content),
-        Err(halt) => Err(halt),
-    }
-}
-
 fn implementation_content(alloc: Global, input: &mut Input<'_>) -> Result<Content, Halt>
     ensures { ReadsWhole (read_whole (spec.read_implementation in_brackets) input.old) result input.new }
 {
-    match tops(alloc, input) {
-        Ok(tops) => whole(input, Content::Implementation(tops)),
-        Err(halt) => Err(halt),
-    }
+    let tops = tops(alloc, input)?;
+    input.end()?;
+    Ok(Content::Implementation(tops))
 }
 
 fn definition_content(alloc: Global, input: &mut Input<'_>) -> Result<Content, Halt>
     ensures { ReadsWhole (read_whole (spec.read_definition in_brackets) input.old) result input.new }
 {
-    match items(alloc, input) {
-        Ok(items) => whole(input, Content::Definition(items)),
-        Err(halt) => Err(halt),
-    }
+    let items = items(alloc, input)?;
+    input.end()?;
+    Ok(Content::Definition(items))
 }
 
 fn tree_of(alloc: Global, content: Content) -> Result<FileTree, Stop>

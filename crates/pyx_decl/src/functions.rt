@@ -23,13 +23,7 @@ use sqlite_items::Items;
 use std::alloc::Global;
 use token_input::{ExprSet, Halt, Input};
 
-pub(crate) fn c_function(
-    kind: CKind,
-    at: u32,
-    typed: Typed,
-    header: Header,
-    body: Suite,
-) -> CFunction
+pub(crate) fn c_function(kind: CKind, at: u32, typed: Typed, header: Header, body: Suite) -> CFunction
     ensures { result ≡ node.c_function kind at typed header body }
 {
     CFunction {
@@ -77,13 +71,11 @@ pub(crate) fn header_and_body(alloc: Global, input: &mut Input<'_>) -> Result<(H
 
 /// Reads a C function behind its first word.
 #[tactic(auto, unfolding(forms::specs::Readers::read_both))]
-pub(crate) fn behind_cpdef(
-    alloc: Global,
-    input: &mut Input<'_>,
-) -> Result<(Typed, Header, Suite), Halt>
+pub(crate) fn behind_cpdef(alloc: Global, input: &mut Input<'_>) -> Result<(Typed, Header, Suite), Halt>
     ensures { Reads (read_both pair_of_three (spec.read_typed_name 100) (read_both pair (spec.read_header in_brackets) (spec.read_body_at 100)) input.old) result input.new }
 {
     let typed = typed_in_file(alloc, input)?;
     let (header, body) = header_and_body(alloc, input)?;
     Ok((typed, header, body))
 }
+

@@ -52,12 +52,7 @@ fn pxd_cpdef_method(alloc: Global, input: &mut Input<'_>) -> Result<PxdMember, H
 }
 
 #[tactic(auto, unfolding(forms::specs::Readers::read_both))]
-fn pxd_method(
-    alloc: Global,
-    input: &mut Input<'_>,
-    at: u32,
-    typed: Typed,
-) -> Result<PxdMember, Halt>
+fn pxd_method(alloc: Global, input: &mut Input<'_>, at: u32, typed: Typed) -> Result<PxdMember, Halt>
     ensures { Reads (and_then (read_both node.pxd_method (spec.read_header in_brackets) (read_one (of words.is_newline) itself) input.old) (λ f r. did (f at typed) r)) result input.new }
 {
     let header = header(alloc, input)?;
@@ -66,12 +61,7 @@ fn pxd_method(
 }
 
 #[tactic(auto, unfolding(forms::specs::Readers::read_both))]
-fn pxd_fields(
-    alloc: Global,
-    input: &mut Input<'_>,
-    at: u32,
-    typed: Typed,
-) -> Result<PxdMember, Halt>
+fn pxd_fields(alloc: Global, input: &mut Input<'_>, at: u32, typed: Typed) -> Result<PxdMember, Halt>
     ensures { Reads (and_then (read_both node.pxd_fields (read_many (of set.is_comma) spec.read_next_name) (read_one (of words.is_newline) itself) input.old) (λ f r. did (f at typed) r)) result input.new }
 {
     let more = names_of_line(alloc, input)?;
@@ -80,12 +70,7 @@ fn pxd_fields(
 }
 
 #[tactic(auto, unfolding(decl_grammar::specs::Reading::read_behind_pxd_member, forms::specs::Readers::read_or))]
-fn behind_pxd_member(
-    alloc: Global,
-    input: &mut Input<'_>,
-    at: u32,
-    typed: Typed,
-) -> Result<PxdMember, Halt>
+fn behind_pxd_member(alloc: Global, input: &mut Input<'_>, at: u32, typed: Typed) -> Result<PxdMember, Halt>
     ensures { Reads (and_then (spec.read_behind_pxd_member in_brackets input.old) (λ f r. did (f at typed) r)) result input.new }
 {
     if input.sees(ExprSet::OpenParenthesis) {
@@ -201,10 +186,7 @@ fn pxd_behind_colon(alloc: Global, input: &mut Input<'_>) -> Result<Items<PxdMem
 }
 
 #[tactic(auto, unfolding(forms::specs::Readers::read_both))]
-fn pxd_base_and_members(
-    alloc: Global,
-    input: &mut Input<'_>,
-) -> Result<(Option<ClassBase>, Items<PxdMember>), Halt>
+fn pxd_base_and_members(alloc: Global, input: &mut Input<'_>) -> Result<(Option<ClassBase>, Items<PxdMember>), Halt>
     ensures { Reads (read_both pair (expr_spec.read_opt set.is_open_parenthesis spec.read_base) (read_both second (read_one (of set.is_colon) itself) (spec.read_members spec.begins_pxd_member (spec.read_pxd_class_member in_brackets) node.pxd_pass_member)) input.old) result input.new }
 {
     let base = base_if_any(alloc, input)?;
@@ -213,10 +195,7 @@ fn pxd_base_and_members(
 }
 
 #[tactic(auto, unfolding(forms::specs::Readers::read_both))]
-fn pxd_behind_class(
-    alloc: Global,
-    input: &mut Input<'_>,
-) -> Result<(Ident, Option<ClassBase>, Items<PxdMember>), Halt>
+fn pxd_behind_class(alloc: Global, input: &mut Input<'_>) -> Result<(Ident, Option<ClassBase>, Items<PxdMember>), Halt>
     ensures { Reads (read_both pair_of_three spec.read_name (read_both pair (expr_spec.read_opt set.is_open_parenthesis spec.read_base) (read_both second (read_one (of set.is_colon) itself) (spec.read_members spec.begins_pxd_member (spec.read_pxd_class_member in_brackets) node.pxd_pass_member))) input.old) result input.new }
 {
     let name = input.ident(alloc, ExprSet::Name)?;
@@ -226,10 +205,7 @@ fn pxd_behind_class(
 
 /// Reads a class from the word `class` on.
 #[tactic(auto, unfolding(decl_grammar::specs::Reading::read_class, forms::specs::Readers::read_both))]
-pub(crate) fn pxd_class(
-    alloc: Global,
-    input: &mut Input<'_>,
-) -> Result<(Ident, Option<ClassBase>, Items<PxdMember>), Halt>
+pub(crate) fn pxd_class(alloc: Global, input: &mut Input<'_>) -> Result<(Ident, Option<ClassBase>, Items<PxdMember>), Halt>
     ensures { Reads (spec.read_class spec.begins_pxd_member (spec.read_pxd_class_member in_brackets) node.pxd_pass_member input.old) result input.new }
 {
     input.expect(StmtSet::Class)?;

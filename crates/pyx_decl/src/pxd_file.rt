@@ -12,8 +12,8 @@ ghost use Rattle.decl_grammar.specs.Reading as spec;
 ghost use Rattle.decl_grammar.specs.Files.{in_brackets};
 ghost use Rattle.token_input.specs.Reads.{Reads};
 
-use crate::pxd_class::pxd_class;
 use crate::pyx_file::{names_cimport, plain_cimport};
+use crate::pxd_class::pxd_class;
 use cy_tree::{CKind, Cimport, PxdClass, PxdItem};
 use pyx_head::{heading, heading_line};
 use pyx_lex::Token;
@@ -69,12 +69,7 @@ fn cpdef_function(alloc: Global, input: &mut Input<'_>) -> Result<PxdItem, Halt>
 }
 
 #[tactic(auto, unfolding(forms::specs::Readers::read_or, forms::specs::Readers::read_both, forms::specs::Readers::read_nothing))]
-fn behind_cdef(
-    alloc: Global,
-    input: &mut Input<'_>,
-    word: &Token,
-    kind: CKind,
-) -> Result<PxdItem, Halt>
+fn behind_cdef(alloc: Global, input: &mut Input<'_>, word: &Token, kind: CKind) -> Result<PxdItem, Halt>
     requires { kind ≡ node.kind_word_of (expr_node.class word.now) }
     ensures { Reads (and_then (read_or (of words.is_class) (spec.read_mapped (factored.flipped node.pxd_class) (spec.read_class spec.begins_pxd_member (spec.read_pxd_class_member in_brackets) node.pxd_pass_member)) (spec.read_mapped (factored.flipped node.pxd_function) (spec.read_heading in_brackets)) input.old) (λ f r. did (f word.now) r)) result input.new }
 {

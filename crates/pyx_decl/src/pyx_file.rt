@@ -74,10 +74,7 @@ pub(crate) fn names_cimport(alloc: Global, input: &mut Input<'_>) -> Result<Cimp
 // ---- an import of names, and what may follow on its line
 
 #[tactic(auto, unfolding(forms::specs::Readers::read_both))]
-fn items_and_more(
-    alloc: Global,
-    input: &mut Input<'_>,
-) -> Result<(Items<ImportItem>, (Items<Simple>, bool)), Halt>
+fn items_and_more(alloc: Global, input: &mut Input<'_>) -> Result<(Items<ImportItem>, (Items<Simple>, bool)), Halt>
     ensures { Reads (read_both pair spec.read_items (spec.read_more_simples 100) input.old) result input.new }
 {
     let items = import_items(alloc, input)?;
@@ -86,12 +83,7 @@ fn items_and_more(
 }
 
 #[tactic(auto, unfolding(forms::specs::Readers::read_both))]
-fn import_tail_line(
-    alloc: Global,
-    input: &mut Input<'_>,
-    word: &Token,
-    outer: Ident,
-) -> Result<Top, Halt>
+fn import_tail_line(alloc: Global, input: &mut Input<'_>, word: &Token, outer: Ident) -> Result<Top, Halt>
     ensures { Reads (and_then (read_both pair (read_both pair spec.read_items (spec.read_more_simples 100)) (read_one (of words.is_newline) itself) input.old) (λ p r. did (factored.import_behind (word.now, outer) p) r)) result input.new }
 {
     let (items, (more, _last)) = items_and_more(alloc, input)?;
@@ -102,12 +94,7 @@ fn import_tail_line(
 }
 
 #[tactic(auto, unfolding(decl_grammar::specs::Reading::read_import_tail, forms::specs::Readers::read_both))]
-fn import_tail(
-    alloc: Global,
-    input: &mut Input<'_>,
-    word: &Token,
-    outer: Ident,
-) -> Result<Top, Halt>
+fn import_tail(alloc: Global, input: &mut Input<'_>, word: &Token, outer: Ident) -> Result<Top, Halt>
     ensures { Reads (and_then (spec.read_import_tail in_brackets input.old) (λ p r. did (factored.import_behind (word.now, outer) p) r)) result input.new }
 {
     input.expect(StmtSet::Import)?;
@@ -115,12 +102,7 @@ fn import_tail(
 }
 
 #[tactic(auto, unfolding(forms::specs::Readers::read_both, forms::specs::Readers::read_or, forms::specs::Readers::read_nothing))]
-fn behind_from(
-    alloc: Global,
-    input: &mut Input<'_>,
-    word: &Token,
-    outer: Ident,
-) -> Result<Top, Halt>
+fn behind_from(alloc: Global, input: &mut Input<'_>, word: &Token, outer: Ident) -> Result<Top, Halt>
     ensures { Reads (and_then (read_or (of words.is_cimport) (spec.read_mapped (factored.flipped factored.cimport_behind) (spec.read_cimport_tail in_brackets)) (spec.read_mapped (factored.flipped factored.import_behind) (spec.read_import_tail in_brackets)) input.old) (λ f r. did (f (word.now, outer)) r)) result input.new }
 {
     if input.sees(StmtSet::Cimport) {

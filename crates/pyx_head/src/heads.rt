@@ -124,10 +124,7 @@ fn typed_fields(alloc: Global, input: &mut Input<'_>) -> Result<(TypeNode, Items
 
 /// Reads what stands behind the `cdef` of fields that are `public` or `readonly`.
 #[tactic(auto, unfolding(decl_grammar::specs::Reading::read_open, forms::specs::Readers::read_both))]
-pub fn open_names(
-    alloc: Global,
-    input: &mut Input<'_>,
-) -> Result<(Access, TypeNode, Items<Ident>), Halt>
+pub fn open_names(alloc: Global, input: &mut Input<'_>) -> Result<(Access, TypeNode, Items<Ident>), Halt>
     ensures { Reads (spec.read_open in_brackets input.old) result input.new }
 {
     let access = access(input)?;

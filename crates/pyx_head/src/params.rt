@@ -185,10 +185,7 @@ fn never_none_if_any(input: &mut Input<'_>) -> Result<Option<u32>, Halt>
 }
 
 #[tactic(auto, unfolding(forms::specs::Readers::read_both))]
-fn behind_parameter(
-    alloc: Global,
-    input: &mut Input<'_>,
-) -> Result<(Option<u32>, Option<Expr>), Halt>
+fn behind_parameter(alloc: Global, input: &mut Input<'_>) -> Result<(Option<u32>, Option<Expr>), Halt>
     ensures { Reads (read_both pair (expr_spec.read_opt set.is_not (spec.read_never_none in_brackets)) (expr_spec.read_opt words.is_assign (spec.read_value in_brackets)) input.old) result input.new }
 {
     let not_none = never_none_if_any(input)?;

@@ -21,12 +21,11 @@ loop-child-preserved t c =
     let ts = children (seen c.args.node) in
     let start = all_shown c.note_own.new.out.items in
     let at = sym c.child.ensures ∙ ap (option_map seen) c.in-Some.is in
-    let next : suc c.loop-child.place ≡ c.in_ok-place.place = omega (arith, c.in_ok-place.ensures) in (
-      omega (arith, c.in_ok-place.ensures, is_within ts c.loop-child.place (seen c.in-Some.child) at),
-      one-more start (all_shown c.loop-child.out.items) (all_shown c.note_all.new.out.items) ts c.loop-child.place (seen c.in-Some.child)
-          at c.loop-child.invariant.1 c.in_ok-note_all.ensures
-          ∙ ap (λ (n : ℕ). start ++ all_of (said (take n ts))) next,
-    )
+    let next : suc c.loop-child.place ≡ c.in_ok-place.place = omega (arith, c.in_ok-place.ensures) in
+    (omega (arith, c.in_ok-place.ensures, is_within ts c.loop-child.place (seen c.in-Some.child) at),
+     one-more start (all_shown c.loop-child.out.items) (all_shown c.note_all.new.out.items) ts c.loop-child.place (seen c.in-Some.child)
+       at c.loop-child.invariant.1 c.in_ok-note_all.ensures
+     ∙ ap (λ (n : ℕ). start ++ all_of (said (take n ts))) next)
 
 pub returns : goal.returns
 returns t c =

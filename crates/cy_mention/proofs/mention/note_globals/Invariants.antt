@@ -1,4 +1,5 @@
 use Rattle.std.proofs.Common.{◌≡◌, ◌++◌, drop, map}
+use Rattle.std.specs.List.{flat_map}
 use Rattle.cy_mention.specs.Mentions.{Globals}
 use Rattle.cy_mention.specs.Shown.{all_shown}
 use Rattle.cy_mention.proofs.mention.note_globals.Given as goal

@@ -1,4 +1,4 @@
-use Rattle.std.proofs.Common.{◌∙◌}
+use Rattle.std.proofs.Common.{◌≡◌, ◌∙◌}
 use Rattle.name_table.proofs.Maps.{lookup-shown}
 use Rattle.name_table.proofs.table.find.Goals as goal
 

@@ -1,16 +1,17 @@
-use Rattle.token_class.specs.Sets.{of}
-use Rattle.cy_tree.specs.declared.content.Content.TheVariants as content
-use Rattle.cy_tree.specs.declared.decl.PxdItem.{PxdItem}
-use Rattle.forms.specs.Readers.{read_many}
-use Rattle.decl_grammar.specs.Files.{in_brackets}
-use Rattle.decl_grammar.specs.Reading.{begins_item, read_pxd_item, read_definition}
-use Rattle.pyx_decl.proofs.EndOf.{behind, fails}
+use Rattle.std.proofs.Common.{rules, arith}
+use Rattle.std.proofs.lemmas.Grind.{common_steps}
+use Rattle.decl_grammar.specs.Reading.{read_definition}
+use Rattle.pyx_decl.proofs.EndOf.{whole, cut, fails}
 use Rattle.pyx_decl.proofs.files.definition_content.Goals as goal
 
-pub returns-in-Ok : goal.returns-in-Ok
+pub returns-in_err-items : goal.returns-in_err-items
 unfolding read_definition
-returns-in-Ok c = rw (behind PxdItem content.Definition (read_many (of begins_item) (read_pxd_item in_brackets)) c.args.input.now c.in-Ok.items c.items.new.input c.in-Ok.ensures) c.whole.ensures
+returns-in_err-items c = λ h. fails _ _ _ _ _ _ (c.in_err-items.ensures h)
 
-pub returns-in-Err : goal.returns-in-Err
+pub returns-in_err-end : goal.returns-in_err-end
 unfolding read_definition
-returns-in-Err c = λ h. fails PxdItem content.Definition (read_many (of begins_item) (read_pxd_item in_brackets)) c.args.input.now _ _ (c.in-Err.ensures h)
+returns-in_err-end c = λ h. rw c.in_err-end.ensures.0 (cut _ _ _ _ _ _ _ c.in_ok-items.ensures c.in_err-end.ensures.1)
+
+pub returns : goal.returns
+unfolding read_definition
+returns c = whole _ _ _ _ _ _ c.in_ok-items.ensures c.in_ok-end.ensures

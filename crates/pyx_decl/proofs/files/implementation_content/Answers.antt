@@ -1,16 +1,17 @@
-use Rattle.token_class.specs.Sets.{of}
-use Rattle.cy_tree.specs.declared.content.Content.TheVariants as content
-use Rattle.cy_tree.specs.declared.decl.Top.{Top}
-use Rattle.forms.specs.Readers.{read_many}
-use Rattle.decl_grammar.specs.Files.{in_brackets}
-use Rattle.decl_grammar.specs.Reading.{begins_top, read_top, read_implementation}
-use Rattle.pyx_decl.proofs.EndOf.{behind, fails}
+use Rattle.std.proofs.Common.{rules, arith}
+use Rattle.std.proofs.lemmas.Grind.{common_steps}
+use Rattle.decl_grammar.specs.Reading.{read_implementation}
+use Rattle.pyx_decl.proofs.EndOf.{whole, cut, fails}
 use Rattle.pyx_decl.proofs.files.implementation_content.Goals as goal
 
-pub returns-in-Ok : goal.returns-in-Ok
+pub returns-in_err-tops : goal.returns-in_err-tops
 unfolding read_implementation
-returns-in-Ok c = rw (behind Top content.Implementation (read_many (of begins_top) (read_top in_brackets)) c.args.input.now c.in-Ok.tops c.tops.new.input c.in-Ok.ensures) c.whole.ensures
+returns-in_err-tops c = λ h. fails _ _ _ _ _ _ (c.in_err-tops.ensures h)
 
-pub returns-in-Err : goal.returns-in-Err
+pub returns-in_err-end : goal.returns-in_err-end
 unfolding read_implementation
-returns-in-Err c = λ h. fails Top content.Implementation (read_many (of begins_top) (read_top in_brackets)) c.args.input.now _ _ (c.in-Err.ensures h)
+returns-in_err-end c = λ h. rw c.in_err-end.ensures.0 (cut _ _ _ _ _ _ _ c.in_ok-tops.ensures c.in_err-end.ensures.1)
+
+pub returns : goal.returns
+unfolding read_implementation
+returns c = whole _ _ _ _ _ _ c.in_ok-tops.ensures c.in_ok-end.ensures

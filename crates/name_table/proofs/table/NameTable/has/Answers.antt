@@ -1,4 +1,4 @@
-use Rattle.std.proofs.Common.{◌∙◌, ap, is_some}
+use Rattle.std.proofs.Common.{◌≡◌, ◌∙◌, ap, is_some}
 use Rattle.name_table.proofs.Maps.{is_some-shown}
 use Rattle.name_table.proofs.table.NameTable.has.Goals as goal
 

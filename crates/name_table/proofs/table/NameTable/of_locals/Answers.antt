@@ -7,4 +7,4 @@ loop-name-preserved c =
     let i = c.loop-name.name-index in
     let follows : i + 1 ≡ suc i = omega arith in
     locals-step c.args.names.now i (i + 1) _ c.loop-name.table c.add_local.new.self _ follows (drop-cons c.args.names.now i _ c.loop-name-test.true)
-    c.loop-name.invariant.0 c.loop-name.invariant.1 c.in_ok-add_local.ensures
+      c.loop-name.invariant.0 c.loop-name.invariant.1 c.in_ok-add_local.ensures
