@@ -32,7 +32,7 @@ use Rattle.c_tree.specs.declared.name.TableName.{TableName}
 use Rattle.c_tree.specs.declared.name.Variable.TheVariants as variables
 use Rattle.c_tree.specs.declared.value.CResult.{CResult}
 use Rattle.c_tree.specs.declared.value.CType.{CType}
-use Rattle.c_tree.specs.Names.{text, function_name, methods_name, place_name, name_of, variable, letter, listed, of_field}
+use Rattle.c_tree.specs.Names.{text, function_name, methods_name, place_name, name_token, variable_token, letter_token, listed, of_field}
 use Rattle.c_tree.specs.Values.{type_spelling, result_spelling, string}
 use Rattle.c_tree.specs.Statements.{statement_spelling}
 
@@ -55,7 +55,7 @@ static_or false tokens = tokens
 -- ---- functions
 
 abbrev pub parameter_spelling : Parameter → List CToken
-parameter_spelling p = type_spelling p.kind ++ (variable (variables.Parameter p.number) ∷ [])
+parameter_spelling p = type_spelling p.kind ++ (variable_token (variables.Parameter p.number) ∷ [])
 
 -- `R cyc_f_0_1(T p0, ..)`
 abbrev pub plain_head : FunctionName → CResult → List Parameter → List CToken
@@ -87,10 +87,10 @@ initial_spelling initial.Null = text "= NULL;"
 initial_spelling initial.Zeros = text "= {0};"
 
 abbrev pub declaration_spelling : Declaration → List CToken
-declaration_spelling d = type_spelling d.kind ++ (variable d.variable ∷ initial_spelling d.initial)
+declaration_spelling d = type_spelling d.kind ++ (variable_token d.variable ∷ initial_spelling d.initial)
 
 abbrev pub line_spelling : Line → List CToken
-line_spelling (line.Label j) = letter "L" j ∷ sign ":" ∷ []
+line_spelling (line.Label j) = letter_token "L" j ∷ sign ":" ∷ []
 line_spelling (line.Statement s) = statement_spelling s
 
 abbrev pub function_spelling : CFunction → List CToken
@@ -100,20 +100,20 @@ function_spelling f = head_spelling f.head ++ (sign "{" ∷ (flat_map declaratio
 
 abbrev pub base_spelling : Base → List CToken
 base_spelling base.Root = text "struct cyc_root b;"
-base_spelling (base.Class n) = word "struct" ∷ name_of "cyc_o_" n ∷ text "b;"
+base_spelling (base.Class n) = word "struct" ∷ name_token "cyc_o_" n ∷ text "b;"
 
 -- the fields, from a number on
 abbrev pub fields_spelling : ℕ → List CType → List CToken
 fields_spelling j [] = []
-fields_spelling j (kind ∷ kinds) = type_spelling kind ++ (letter "f" j ∷ sign ";" ∷ fields_spelling (suc j) kinds)
+fields_spelling j (kind ∷ kinds) = type_spelling kind ++ (letter_token "f" j ∷ sign ";" ∷ fields_spelling (suc j) kinds)
 
 abbrev pub table_base_spelling : TableBase → List CToken
 table_base_spelling table_base.Name = text "const char *name;"
-table_base_spelling (table_base.Class n) = word "struct" ∷ name_of "cyc_vt_" n ∷ text "b;"
+table_base_spelling (table_base.Class n) = word "struct" ∷ name_token "cyc_vt_" n ∷ text "b;"
 
 -- `R (*m0)(T, ..);`
 abbrev pub slot_spelling : Slot → List CToken
-slot_spelling s = result_spelling s.result ++ (text "(*" ++ (letter "m" s.number ∷ (text ")" ++ (types_spelling s.parameters ++ text ";"))))
+slot_spelling s = result_spelling s.result ++ (text "(*" ++ (letter_token "m" s.number ∷ (text ")" ++ (types_spelling s.parameters ++ text ";"))))
 
 -- functions, each with the comma before it
 abbrev pub behind : List FunctionName → List CToken
@@ -130,7 +130,7 @@ table_spelling t =
 -- a row, with the comma after it
 abbrev pub method_spelling : MethodRow → List CToken
 method_spelling m =
-    sign "{" ∷ string m.name ∷ (text ", (PyCFunction)(void (*)(void))" ++ (name_of "cyc_w_" m.wrapper ∷ text ", METH_FASTCALL, NULL},"))
+    sign "{" ∷ string m.name ∷ (text ", (PyCFunction)(void (*)(void))" ++ (name_token "cyc_w_" m.wrapper ∷ text ", METH_FASTCALL, NULL},"))
 
 abbrev pub setter_or_null : Option FieldNumber → List CToken
 setter_or_null None = text "NULL"
@@ -143,7 +143,7 @@ property_spelling p =
 -- a member of a table, where it is there
 abbrev pub member : String → String → String → Option Numbered → List (List CToken)
 member dotted before letters None = []
-member dotted before letters (Some n) = (text dotted ++ (text before ++ (name_of letters n ∷ []))) ∷ []
+member dotted before letters (Some n) = (text dotted ++ (text before ++ (name_token letters n ∷ []))) ∷ []
 
 -- the members, with a comma between them
 abbrev pub members : List (List CToken) → List CToken
@@ -152,7 +152,7 @@ members all = sign "{" ∷ (listed (λ tokens. tokens) all ++ text "};")
 abbrev pub type_members : TypeObject → List (List CToken)
 type_members t =
     (text ".tp_name =" ++ (string t.name ∷ []))
-    ∷ (text ".tp_basicsize = sizeof(struct" ++ (name_of "cyc_o_" t.size ∷ text ")"))
+    ∷ (text ".tp_basicsize = sizeof(struct" ++ (name_token "cyc_o_" t.size ∷ text ")"))
     ∷ text ".tp_flags = Py_TPFLAGS_DEFAULT | Py_TPFLAGS_BASETYPE"
     ∷ (member ".tp_base" "= &" "cyc_ty_" t.base ++ (member ".tp_new" "=" "cyc_new_" t.new ++ (member ".tp_init" "=" "cyc_init_" t.init
     ++ (member ".tp_dealloc" "=" "cyc_dealloc_" t.dealloc ++ (member ".tp_methods" "=" "cyc_ms_" t.methods ++ (member ".tp_getset" "=" "cyc_gs_" t.properties
@@ -173,25 +173,25 @@ item_spelling item.FormatTest =
     ++ (text "if (f[0] == '@') f = f + 1;"
     ++ (text "return f[0] != 0 && f[1] == 0 && strchr(set, f[0]) != NULL;" ++ text "}")))
 item_spelling (item.InstanceStruct n b kinds) =
-    word "struct" ∷ name_of "cyc_o_" n ∷ sign "{" ∷ (base_spelling b ++ (fields_spelling 0 kinds ++ text "};"))
+    word "struct" ∷ name_token "cyc_o_" n ∷ sign "{" ∷ (base_spelling b ++ (fields_spelling 0 kinds ++ text "};"))
 item_spelling (item.TableStruct n b slots) =
-    word "struct" ∷ name_of "cyc_vt_" n ∷ sign "{" ∷ (table_base_spelling b ++ (flat_map slot_spelling slots ++ text "};"))
+    word "struct" ∷ name_token "cyc_vt_" n ∷ sign "{" ∷ (table_base_spelling b ++ (flat_map slot_spelling slots ++ text "};"))
 item_spelling (item.Table t) =
-    text "const struct" ++ (name_of "cyc_vt_" t.class ∷ name_of "cyc_t_" t.class ∷ sign "=" ∷ (table_spelling t ++ text ";"))
+    text "const struct" ++ (name_token "cyc_vt_" t.class ∷ name_token "cyc_t_" t.class ∷ sign "=" ∷ (table_spelling t ++ text ";"))
 item_spelling (item.Prototype kind f kinds) = result_spelling kind ++ (function_token f ∷ (types_spelling kinds ++ text ";"))
 item_spelling (item.StaticPrototype kind f kinds) = word "static" ∷ (type_spelling kind ++ (function_token f ∷ (types_spelling kinds ++ text ";")))
-item_spelling (item.ExternType n) = text "extern PyTypeObject" ++ (name_of "cyc_ty_" n ∷ text ";")
+item_spelling (item.ExternType n) = text "extern PyTypeObject" ++ (name_token "cyc_ty_" n ∷ text ";")
 item_spelling (item.Static kind x) = word "static" ∷ (type_spelling kind ++ (Word (place_name x) ∷ text ";"))
 item_spelling (item.Methods is_static name rows) =
     static_or is_static (word "PyMethodDef" ∷ Word (methods_name name) ∷ (text "[] = {" ++ (flat_map method_spelling rows ++ text "{NULL, NULL, 0, NULL} };")))
 item_spelling (item.Properties is_static n rows) =
-    static_or is_static (word "PyGetSetDef" ∷ name_of "cyc_gs_" n ∷ (text "[] = {" ++ (flat_map property_spelling rows ++ text "{NULL, NULL, NULL, NULL, NULL} };")))
+    static_or is_static (word "PyGetSetDef" ∷ name_token "cyc_gs_" n ∷ (text "[] = {" ++ (flat_map property_spelling rows ++ text "{NULL, NULL, NULL, NULL, NULL} };")))
 item_spelling (item.Sequence is_static n length contains) =
-    static_or is_static (word "PySequenceMethods" ∷ name_of "cyc_sq_" n ∷ sign "=" ∷ members (member ".sq_length" "=" "cyc_len_" length ++ member ".sq_contains" "=" "cyc_has_" contains))
+    static_or is_static (word "PySequenceMethods" ∷ name_token "cyc_sq_" n ∷ sign "=" ∷ members (member ".sq_length" "=" "cyc_len_" length ++ member ".sq_contains" "=" "cyc_has_" contains))
 item_spelling (item.Mapping is_static n length subscript) =
-    static_or is_static (word "PyMappingMethods" ∷ name_of "cyc_mp_" n ∷ sign "=" ∷ members (member ".mp_length" "=" "cyc_len_" length ++ member ".mp_subscript" "=" "cyc_item_" subscript))
+    static_or is_static (word "PyMappingMethods" ∷ name_token "cyc_mp_" n ∷ sign "=" ∷ members (member ".mp_length" "=" "cyc_len_" length ++ member ".mp_subscript" "=" "cyc_item_" subscript))
 item_spelling (item.Type is_static t) =
-    static_or is_static (word "PyTypeObject" ∷ name_of "cyc_ty_" t.class ∷ (text "= { PyVarObject_HEAD_INIT(NULL, 0)" ++ (listed (λ tokens. tokens) (type_members t) ++ text "};")))
+    static_or is_static (word "PyTypeObject" ∷ name_token "cyc_ty_" t.class ∷ (text "= { PyVarObject_HEAD_INIT(NULL, 0)" ++ (listed (λ tokens. tokens) (type_members t) ++ text "};")))
 item_spelling (item.ModuleDefinition is_static name) =
     static_or is_static (text "struct PyModuleDef cyc_def = { PyModuleDef_HEAD_INIT," ++ (string name ∷ text ", NULL, -1, cyc_md };"))
 item_spelling (item.Function f) = function_spelling f

@@ -79,15 +79,15 @@ methods_name (table.OfClass n) = numbered "cyc_ms_" n
 
 -- ---- as tokens
 
-abbrev pub name_of : String → Numbered → CToken
-name_of letters n = Word (numbered letters n)
+abbrev pub name_token : String → Numbered → CToken
+name_token letters n = Word (numbered letters n)
 
-abbrev pub variable : Variable → CToken
-variable x = Word (variable_name x)
+abbrev pub variable_token : Variable → CToken
+variable_token x = Word (variable_name x)
 
 -- `L0`, `f0`, `m0`
-abbrev pub letter : String → ℕ → CToken
-letter letters j = Word (lettered letters j)
+abbrev pub letter_token : String → ℕ → CToken
+letter_token letters j = Word (lettered letters j)
 
 -- the spellings, with a comma between them
 abbrev pub listed : {A : Type 0} → (A → List CToken) → List A → List CToken

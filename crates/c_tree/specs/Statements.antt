@@ -20,7 +20,8 @@ use Rattle.c_tree.specs.declared.statement.ViewNumber.{ViewNumber}
 use Rattle.c_tree.specs.declared.statement.ViewNumber.TheVariants as number
 use Rattle.c_tree.specs.declared.statement.ViewPlace.{ViewPlace}
 use Rattle.c_tree.specs.declared.statement.ViewPlace.TheVariants as place
-use Rattle.c_tree.specs.Names.{text, function_name, name_of, variable, letter, listed}
+use Rattle.c_tree.specs.declared.value.CType.{CType}
+use Rattle.c_tree.specs.Names.{text, function_name, name_token, variable_token, letter_token, listed}
 use Rattle.c_tree.specs.Values.{type_spelling, string, value_spelling}
 
 abbrev pub op_spelling : BinaryOp → CToken
@@ -58,18 +59,18 @@ arguments all = sign "(" ∷ (listed argument_spelling all ++ (sign ")" ∷ []))
 
 -- `((struct cyc_o_0_1 *)y)->f2`
 abbrev pub field : FieldPlace → List CToken
-field p = text "((struct " ++ (name_of "cyc_o_" p.class ∷ (text " *)" ++ (variable p.object ∷ (text ")->" ++ (letter "f" p.field ∷ [])))))
+field p = text "((struct " ++ (name_token "cyc_o_" p.class ∷ (text " *)" ++ (variable_token p.object ∷ (text ")->" ++ (letter_token "f" p.field ∷ [])))))
 
 -- `((struct cyc_root *)y)->vt`
 abbrev pub table_of : Variable → List CToken
-table_of y = text "((struct cyc_root *)" ++ (variable y ∷ text ")->vt")
+table_of y = text "((struct cyc_root *)" ++ (variable_token y ∷ text ")->vt")
 
 -- `((const struct cyc_vt_0_1 *)((struct cyc_root *)y)->vt)->m2`
 abbrev pub method_of : Numbered → Variable → ℕ → List CToken
-method_of n y j = text "((const struct " ++ (name_of "cyc_vt_" n ∷ (text " *)" ++ (table_of y ++ (text ")->" ++ (letter "m" j ∷ [])))))
+method_of n y j = text "((const struct " ++ (name_token "cyc_vt_" n ∷ (text " *)" ++ (table_of y ++ (text ")->" ++ (letter_token "m" j ∷ [])))))
 
 abbrev pub view : ViewPlace → List CToken
-view (place.Variable x) = variable x ∷ []
+view (place.Variable x) = variable_token x ∷ []
 view (place.Field p) = field p
 
 abbrev pub extent_name : Extent → CToken
@@ -85,7 +86,7 @@ extent_of v e j = view v ++ (sign "." ∷ extent_name e ∷ index j)
 
 -- `PyMemoryView_GET_BUFFER(y)->`
 abbrev pub buffer_of : Variable → List CToken
-buffer_of y = text "PyMemoryView_GET_BUFFER(" ++ (variable y ∷ text ")->")
+buffer_of y = text "PyMemoryView_GET_BUFFER(" ++ (variable_token y ∷ text ")->")
 
 abbrev pub number_spelling : ViewNumber → List CToken
 number_spelling number.Dimensions = text "ndim"
@@ -96,11 +97,11 @@ number_spelling (number.Stride j) = word "strides" ∷ index j
 
 -- `*(T *)(v.buf + y)`
 abbrev pub element : CType → Variable → Variable → List CToken
-element kind v y = text "*(" ++ (type_spelling kind ++ (text " *)(" ++ (variable v ∷ (text ".buf + " ++ (variable y ∷ text ")")))))
+element kind v y = text "*(" ++ (type_spelling kind ++ (text " *)(" ++ (variable_token v ∷ (text ".buf + " ++ (variable_token y ∷ text ")")))))
 
 -- `x = ..;`
 abbrev pub assigned : Variable → List CToken → List CToken
-assigned x k = variable x ∷ sign "=" ∷ (k ++ (sign ";" ∷ []))
+assigned x k = variable_token x ∷ sign "=" ∷ (k ++ (sign ";" ∷ []))
 
 -- `.. = ..;`
 abbrev pub stored : List CToken → List CToken → List CToken
@@ -125,15 +126,15 @@ statement_spelling (stmt.Cast x kind k) = assigned x (sign "(" ∷ (type_spellin
 statement_spelling (stmt.Call x f all) = given x (Word (callee_name f) ∷ arguments all)
 statement_spelling (stmt.LoadField x p) = assigned x (field p)
 statement_spelling (stmt.StoreField p k) = stored (field p) (value_spelling k)
-statement_spelling (stmt.StoreTable y n) = stored (table_of y) (sign "&" ∷ name_of "cyc_t_" n ∷ [])
+statement_spelling (stmt.StoreTable y n) = stored (table_of y) (sign "&" ∷ name_token "cyc_t_" n ∷ [])
 statement_spelling (stmt.CallMethod x n y j all) = given x (method_of n y j ++ arguments all)
 statement_spelling (stmt.IsNative x y n) =
-    assigned x (text "PyCFunction_Check(" ++ (variable y ∷ (text ") && PyCFunction_GetFunction(" ++ (variable y ∷ (text ") == (PyCFunction)(void (*)(void))" ++ (name_of "cyc_w_" n ∷ []))))))
-statement_spelling (stmt.HasHeapType x y) = assigned x (text "PyType_HasFeature(Py_TYPE(" ++ (variable y ∷ text "), Py_TPFLAGS_HEAPTYPE)"))
-statement_spelling (stmt.Goto t j) = test_spelling t ++ (word "goto" ∷ letter "L" j ∷ sign ";" ∷ [])
+    assigned x (text "PyCFunction_Check(" ++ (variable_token y ∷ (text ") && PyCFunction_GetFunction(" ++ (variable_token y ∷ (text ") == (PyCFunction)(void (*)(void))" ++ (name_token "cyc_w_" n ∷ []))))))
+statement_spelling (stmt.HasHeapType x y) = assigned x (text "PyType_HasFeature(Py_TYPE(" ++ (variable_token y ∷ text "), Py_TPFLAGS_HEAPTYPE)"))
+statement_spelling (stmt.Goto t j) = test_spelling t ++ (word "goto" ∷ letter_token "L" j ∷ sign ";" ∷ [])
 statement_spelling (stmt.Return None) = text "return;"
 statement_spelling (stmt.Return (Some k)) = word "return" ∷ (value_spelling k ++ (sign ";" ∷ []))
-statement_spelling (stmt.Free x) = text "Py_TYPE(" ++ (variable x ∷ (text ")->tp_free(" ++ (variable x ∷ text ");")))
+statement_spelling (stmt.Free x) = text "Py_TYPE(" ++ (variable_token x ∷ (text ")->tp_free(" ++ (variable_token x ∷ text ");")))
 statement_spelling (stmt.ViewNumber x y n) = assigned x (buffer_of y ++ number_spelling n)
 statement_spelling (stmt.IsIndirect x y) = assigned x (buffer_of y ++ text "suboffsets != NULL")
 statement_spelling (stmt.HasFormat x y letters) = assigned x (text "cyc_fmt(" ++ (buffer_of y ++ (text "format, " ++ (string letters ∷ text ")"))))

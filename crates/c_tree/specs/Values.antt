@@ -12,7 +12,7 @@ use Rattle.c_tree.specs.declared.value.CValue.{CValue}
 use Rattle.c_tree.specs.declared.value.CValue.TheVariants as value
 use Rattle.c_tree.specs.declared.value.Literal.{Literal}
 use Rattle.c_tree.specs.declared.value.Literal.TheVariants as literal
-use Rattle.c_tree.specs.Names.{text, variable, name_of}
+use Rattle.c_tree.specs.Names.{text, variable_token, name_token}
 
 abbrev pub type_spelling : CType → List CToken
 type_spelling type.SignedChar = text "signed char"
@@ -82,7 +82,7 @@ exception_name exception.NameError = codes "PyExc_NameError"
 exception_name exception.UnboundLocalError = codes "PyExc_UnboundLocalError"
 
 abbrev pub value_spelling : CValue → List CToken
-value_spelling (value.Variable x) = variable x ∷ []
+value_spelling (value.Variable x) = variable_token x ∷ []
 value_spelling (value.Argument j) = word "args" ∷ sign "[" ∷ Word (decimal j) ∷ sign "]" ∷ []
 value_spelling (value.Literal n) = literal_spelling n
 value_spelling value.Null = text "NULL"
@@ -90,6 +90,6 @@ value_spelling value.NoneObject = text "Py_None"
 value_spelling value.TrueObject = text "Py_True"
 value_spelling value.FalseObject = text "Py_False"
 value_spelling (value.Exception e) = Word (exception_name e) ∷ []
-value_spelling (value.ClassObject n) = text "(PyObject *)&" ++ (name_of "cyc_ty_" n ∷ [])
-value_spelling (value.TypeAddress n) = sign "&" ∷ name_of "cyc_ty_" n ∷ []
+value_spelling (value.ClassObject n) = text "(PyObject *)&" ++ (name_token "cyc_ty_" n ∷ [])
+value_spelling (value.TypeAddress n) = sign "&" ∷ name_token "cyc_ty_" n ∷ []
 value_spelling value.Definition = text "&cyc_def"
