@@ -1,9 +1,10 @@
 -- A text of two parts has the tokens of both, where they don't meet within a token.
-use Rattle.std.proofs.Common.{◌≡◌, ℕ, Bool, true, false, ◌&&◌, ◌||◌, not, List, [], ◌∷◌, ◌++◌, refl, sym, ap, ◌∙◌, append_assoc, append-nil, length, get_or, ◌-◌, ◌<◌, arith}
-use Rattle.std.specs.Prelude.{nat_eq, nat_le, if◌then◌else◌, codes}
+use Rattle.std.proofs.Common.{◌≡◌, ℕ, Bool, true, false, ◌&&◌, ◌||◌, not, List, [], ◌∷◌, ◌++◌, refl, sym, ap, ◌∙◌, append_assoc, append-nil, length, get_or, ◌+◌, ◌-◌, ◌/◌, ◌%◌, ◌<◌, arith}
+use Rattle.std.specs.Prelude.{nat_eq, nat_lt, if◌then◌else◌, codes}
 use Rattle.std.specs.List.{list_any, list_all, flat_map}
 use Rattle.std.specs.Str.{bytes_eq}
-use Rattle.std.proofs.lemmas.Bool.{eqb-true}
+use Rattle.std.proofs.lemmas.Bool.{eqb-true, ne_eqb}
+use Rattle.std.proofs.lemmas.Bool.Decides.{nat_tests}
 use Rattle.std.proofs.lemmas.Slice.Eq.{bytes_eq-Decides}
 use Rattle.c_state.specs.CTokens.{CToken, Word, Sign, Other, Str, Character, CLine, Fresh, Text, Hash, Include, Directive, after, line_end, Mode, Between, InWord, InSign, InQuotes, AfterBackslash, InHeader, HeaderName, Step, goes_on, gives, before, begin, ends, ByteKind, LineFeed, Blank, WordByte, Quote, Alone, Joining, Neither, kind_of, is_word_byte, is_long_sign, long_signs, quoted, step, tokens_from, c_tokens}
 use Rattle.c_state.specs.CReading.{AreWordBytes, quoted_byte}
@@ -433,6 +434,78 @@ string_alone : (bytes rest : List ℕ) → tokens_from (Between Fresh) (34 ∷ (
 unfolding tokens_from
 string_alone bytes rest = line_free true 34 [] (flat_map quoted_byte bytes ++ (34 ∷ rest)) ∙ string_tokens bytes rest
 
+-- where the reading stands after a byte in quotes
+plain_after : (line : CLine) (letters : List ℕ) (b : ℕ) (more : List ℕ) → nat_eq b 10 ≡ false → nat_eq b 92 ≡ false → nat_eq b 34 ≡ false
+    → mode_after (InQuotes line 34 letters) (b ∷ more) ≡ mode_after (InQuotes line 34 (letters ++ b ∷ [])) more
+plain_after line letters b more e f g = rw (e, f, g) refl
+
+slash_after : (line : CLine) (letters : List ℕ) (b : ℕ) (more : List ℕ) → nat_eq b 10 ≡ false
+    → mode_after (AfterBackslash line 34 letters) (b ∷ more) ≡ mode_after (InQuotes line 34 (letters ++ b ∷ [])) more
+slash_after line letters b more e = rw e refl
+
+slash_begins : (line : CLine) (letters more : List ℕ) → mode_after (InQuotes line 34 letters) (92 ∷ more) ≡ mode_after (AfterBackslash line 34 (letters ++ 92 ∷ [])) more
+slash_begins line letters more = refl
+
+digit_after : (line : CLine) (letters : List ℕ) (d : ℕ) (more : List ℕ) → d < 8
+    → mode_after (InQuotes line 34 letters) ((48 + d) ∷ more) ≡ mode_after (InQuotes line 34 (letters ++ (48 + d) ∷ [])) more
+digit_after line letters d more h =
+    plain_after line letters (48 + d) more
+    (ne_eqb (48 + d) 10 (λ e. omega arith)) (ne_eqb (48 + d) 92 (λ e. omega arith)) (ne_eqb (48 + d) 34 (λ e. omega arith))
+
+quoted_after : (line : CLine) (letters : List ℕ) (b : ℕ) (more : List ℕ) (test : Bool)
+    → ((nat_lt b 32 || nat_lt 126 b) || (nat_eq b 34 || nat_eq b 92)) ≡ test
+    → (spelled : List ℕ) → spelled ≡ (if test then 92 ∷ (48 + b / 64) ∷ (48 + b / 8 % 8) ∷ (48 + b % 8) ∷ [] else b ∷ [])
+    → mode_after (InQuotes line 34 letters) (spelled ++ more) ≡ mode_after (InQuotes line 34 (letters ++ spelled)) more
+quoted_after line letters b more true h spelled e =
+    let all : ((((letters ++ 92 ∷ []) ++ (48 + b / 64) ∷ []) ++ (48 + b / 8 % 8) ∷ []) ++ (48 + b % 8) ∷ []) ≡ letters ++ 92 ∷ (48 + b / 64) ∷ (48 + b / 8 % 8) ∷ (48 + b % 8) ∷ [] = simp append_assoc in
+    let tail : List ℕ = (48 + b / 8 % 8) ∷ (48 + b % 8) ∷ more in
+    rw e (slash_begins line letters ((48 + b / 64) ∷ tail)
+    ∙ (slash_after line (letters ++ 92 ∷ []) (48 + b / 64) tail (ne_eqb (48 + b / 64) 10 (λ e. omega arith))
+    ∙ (digit_after line ((letters ++ 92 ∷ []) ++ (48 + b / 64) ∷ []) (b / 8 % 8) ((48 + b % 8) ∷ more) (omega arith)
+    ∙ (digit_after line (((letters ++ 92 ∷ []) ++ (48 + b / 64) ∷ []) ++ (48 + b / 8 % 8) ∷ []) (b % 8) more (omega arith)
+    ∙ ap (λ w. mode_after (InQuotes line 34 w) more) all))))
+quoted_after line letters b more false h spelled e =
+    rw e (plain_after line letters b more (grind (arith, nat_tests)) (grind (arith, nat_tests)) (grind (arith, nat_tests)))
+
+string_ends : (line : CLine) (letters bytes : List ℕ) → mode_after (InQuotes line 34 letters) (flat_map quoted_byte bytes ++ (34 ∷ [])) ≡ Between (after line (Str (letters ++ flat_map quoted_byte bytes)))
+string_ends line letters [] = ap (λ w. Between (after line (Str w))) (sym (append-nil letters))
+string_ends line letters (b ∷ bytes) =
+    ap (mode_after (InQuotes line 34 letters)) (append_assoc (quoted_byte b) (flat_map quoted_byte bytes) (34 ∷ []))
+    ∙ (quoted_after line letters b (flat_map quoted_byte bytes ++ (34 ∷ [])) _ refl (quoted_byte b) refl
+    ∙ (string_ends line (letters ++ quoted_byte b) bytes
+    ∙ ap (λ w. Between (after line (Str w))) (append_assoc letters (quoted_byte b) (flat_map quoted_byte bytes))))
+
+-- the mode at an opening quote
+quote_begun : (mode : Mode) → textual mode ≡ InQuotes Text 34 [] → (ys : List ℕ) → tokens_from mode ys ≡ tokens_from (InQuotes Text 34 []) ys
+quote_begun (InQuotes Fresh quote letters) e ys =
+    let q : quote ≡ 34 = cc in let l : letters ≡ [] = cc in
+    ap (λ z. tokens_from (InQuotes Fresh z letters) ys) q ∙ (ap (λ z. tokens_from (InQuotes Fresh 34 z) ys) l ∙ line_free true 34 [] ys)
+quote_begun (InQuotes Text quote letters) e ys = ap (λ m. tokens_from m ys) e
+quote_begun (InQuotes Hash quote letters) e ys = cc
+quote_begun (InQuotes Include quote letters) e ys = cc
+quote_begun (InQuotes Directive quote letters) e ys = cc
+quote_begun (Between line) e ys = cc
+quote_begun (InWord line letters) e ys = cc
+quote_begun (InSign line letters) e ys = cc
+quote_begun (AfterBackslash line quote letters) e ys = cc
+quote_begun (InHeader letters) e ys = cc
+
+quote_rests : (mode : Mode) → textual mode ≡ InQuotes Text 34 [] → (bytes : List ℕ) → mode_after mode (flat_map quoted_byte bytes ++ (34 ∷ [])) ≡ Between Text
+quote_rests (InQuotes Fresh quote letters) e bytes =
+    let q : quote ≡ 34 = cc in
+    ap (λ z. mode_after (InQuotes Fresh z letters) (flat_map quoted_byte bytes ++ (34 ∷ []))) q ∙ string_ends Fresh letters bytes
+quote_rests (InQuotes Text quote letters) e bytes =
+    let q : quote ≡ 34 = cc in
+    ap (λ z. mode_after (InQuotes Text z letters) (flat_map quoted_byte bytes ++ (34 ∷ []))) q ∙ string_ends Text letters bytes
+quote_rests (InQuotes Hash quote letters) e bytes = cc
+quote_rests (InQuotes Include quote letters) e bytes = cc
+quote_rests (InQuotes Directive quote letters) e bytes = cc
+quote_rests (Between line) e bytes = cc
+quote_rests (InWord line letters) e bytes = cc
+quote_rests (InSign line letters) e bytes = cc
+quote_rests (AfterBackslash line quote letters) e bytes = cc
+quote_rests (InHeader letters) e bytes = cc
+
 module _ (text : List ℕ) (last : ℕ) (at : IsAtRest text last) where
   abbrev mode : Mode
   mode = mode_after (Between Fresh) text
@@ -512,6 +585,25 @@ module _ (text : List ℕ) (last : ℕ) (at : IsAtRest text last) where
           go true false = refl
           go false true = refl
           go false false = refl
+
+  abbrev literal : List ℕ → List ℕ
+  literal bytes = 34 ∷ (flat_map quoted_byte bytes ++ (34 ∷ []))
+
+  pub string_written : (bytes : List ℕ) → c_tokens (text ++ literal bytes) ≡ c_tokens text ++ Str (flat_map quoted_byte bytes) ∷ []
+  unfolding c_tokens tokens_from
+  string_written bytes =
+      let ys = flat_map quoted_byte bytes ++ (34 ∷ []) in
+      split (Between Fresh) text (34 ∷ ys)
+      ∙ (ap (λ t. given_of (Between Fresh) text ++ (t ++ tokens_from (step mode 34).next ys)) (quote_closes.0 ∙ append-nil (closing mode))
+      ∙ (ap (λ t. given_of (Between Fresh) text ++ (closing mode ++ t)) (quote_begun (step mode 34).next quote_closes.1 ys ∙ string_tokens bytes [])
+      ∙ (sym (append_assoc (given_of (Between Fresh) text) (closing mode) (Str (flat_map quoted_byte bytes) ∷ []))
+      ∙ ap (λ t. t ++ Str (flat_map quoted_byte bytes) ∷ []) (sym (ended (Between Fresh) text)))))
+
+  pub string_rests : (bytes : List ℕ) → IsAtRest (text ++ literal bytes) 34
+  string_rests bytes =
+      let ys = flat_map quoted_byte bytes ++ (34 ∷ []) in
+      let m : mode_after (Between Fresh) (text ++ literal bytes) ≡ Between Text = mode_append (Between Fresh) text (34 ∷ ys) ∙ quote_rests (step mode 34).next quote_closes.1 bytes in
+      record { rests = ap is_at_rest m; ends = ap (λ m. fits m 34) m; fresh = λ e. cc }
 
   -- a blank keeps the tokens
   pub glue_blank : glue last 32 ≡ false
