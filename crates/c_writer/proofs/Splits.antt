@@ -622,6 +622,23 @@ module _ (text : List ℕ) (last : ℕ) (at : IsAtRest text last) where
   pub blank_rests : IsAtRest (text ++ 32 ∷ []) 32
   blank_rests = text_rests 32 [] [] 32 glue_blank refl refl
 
+  glue_feed : glue last 10 ≡ false
+  glue_feed = go (is_word_byte last) (is_joining last)
+    where
+      go : (x y : Bool) → ((x && false) || (y && false)) ≡ false
+      go true true = refl
+      go true false = refl
+      go false true = refl
+      go false false = refl
+
+  -- the end of a line keeps the tokens
+  pub feed_written : c_tokens (text ++ 10 ∷ []) ≡ c_tokens text
+  unfolding c_tokens tokens_from
+  feed_written = text_written 10 [] glue_feed refl ∙ append-nil (c_tokens text)
+
+  pub feed_rests : IsAtRest (text ++ 10 ∷ []) 10
+  feed_rests = text_rests 10 [] [] 10 glue_feed refl refl
+
   -- a line of its own
   pub line_written : (line : List ℕ) → last ≡ 10 → c_tokens (text ++ line) ≡ c_tokens text ++ c_tokens line
   unfolding c_tokens

@@ -1,6 +1,7 @@
 -- Where the reading of a text stands at its end (ISO/IEC 9899:2011 6.4).
-use Rattle.std.specs.Prelude.{◌≡◌, ℕ, List, [], ◌∷◌, Bool, true, false, not, ◌&&◌, ◌||◌, nat_eq, codes}
+use Rattle.std.specs.Prelude.{◌≡◌, ℕ, ◌++◌, decimal,  List, [], ◌∷◌, Bool, true, false, not, ◌&&◌, ◌||◌, nat_eq, codes}
 use Rattle.std.specs.List.{list_any, list_all}
+use Rattle.c_state.specs.CReading.{AreWordBytes}
 use Rattle.c_state.specs.CTokens.{CLine, Fresh, Text, Mode, Between, InWord, InSign, step, is_word_byte}
 
 -- where the reading stands after these bytes
@@ -49,3 +50,12 @@ pub record IsAtRest (text : List ℕ) (last : ℕ) : Type 0 where
   pub rests : is_at_rest (mode_after (Between Fresh) text) ≡ true
   pub ends : fits (mode_after (Between Fresh) text) last ≡ true
   pub fresh : last ≡ 10 → mode_after (Between Fresh) text ≡ Between Fresh
+
+-- letters, digits and `_`, at least one
+abbrev pub IsLetters : List ℕ → Type 0
+IsLetters [] = ⊥
+IsLetters (b ∷ more) = AreWordBytes (b ∷ more)
+
+-- the digits of two numbers with `_` between them
+abbrev pub two_numbers : ℕ → ℕ → List ℕ
+two_numbers m k = decimal m ++ (codes "_" ++ decimal k)
