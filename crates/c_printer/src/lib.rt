@@ -1,0 +1,5 @@
+//! The printer of C trees.
+#![tactic(auto)]
+
+mod mark;
+mod name;

@@ -1,0 +1,22 @@
+//! Signs and words that are the same everywhere, with the blanks that stand around them.
+ghost use Rattle.std.specs.Prelude.{◌≡◌, ◌++◌, ◌∷◌, [], IfOk};
+ghost use Rattle.c_state.specs.CTokens.{sign, word};
+
+use c_writer::Writer;
+use std::alloc::AllocError;
+
+pub(crate) type Put = Result<Writer, AllocError>;
+
+#[tactic(auto, unfolding(c_state::specs::CTokens::c_tokens, c_state::specs::CTokens::tokens_from))]
+pub(crate) fn equals(out: Writer) -> Put
+    ensures { IfOk result (λ new. new ≡ out ++ sign "=" ∷ []) }
+{
+    out.text(b" = ")
+}
+
+#[tactic(auto, unfolding(c_state::specs::CTokens::c_tokens, c_state::specs::CTokens::tokens_from))]
+pub(crate) fn semicolon(out: Writer) -> Put
+    ensures { IfOk result (λ new. new ≡ out ++ sign ";" ∷ []) }
+{
+    out.text(b";")
+}
