@@ -3,3 +3,6 @@
 
 mod mark;
 mod name;
+mod place;
+mod statement;
+mod value;

@@ -20,3 +20,87 @@ pub(crate) fn semicolon(out: Writer) -> Put
 {
     out.text(b";")
 }
+
+#[tactic(auto, unfolding(c_state::specs::CTokens::c_tokens, c_state::specs::CTokens::tokens_from))]
+pub(crate) fn comma(out: Writer) -> Put
+    ensures { IfOk result (λ new. new ≡ out ++ sign "," ∷ []) }
+{
+    out.text(b", ")
+}
+
+#[tactic(auto, unfolding(c_state::specs::CTokens::c_tokens, c_state::specs::CTokens::tokens_from))]
+pub(crate) fn open(out: Writer) -> Put
+    ensures { IfOk result (λ new. new ≡ out ++ sign "(" ∷ []) }
+{
+    out.text(b"(")
+}
+
+#[tactic(auto, unfolding(c_state::specs::CTokens::c_tokens, c_state::specs::CTokens::tokens_from))]
+pub(crate) fn close(out: Writer) -> Put
+    ensures { IfOk result (λ new. new ≡ out ++ sign ")" ∷ []) }
+{
+    out.text(b")")
+}
+
+#[tactic(auto, unfolding(c_state::specs::CTokens::c_tokens, c_state::specs::CTokens::tokens_from))]
+pub(crate) fn open_bracket(out: Writer) -> Put
+    ensures { IfOk result (λ new. new ≡ out ++ sign "[" ∷ []) }
+{
+    out.text(b"[")
+}
+
+#[tactic(auto, unfolding(c_state::specs::CTokens::c_tokens, c_state::specs::CTokens::tokens_from))]
+pub(crate) fn close_bracket(out: Writer) -> Put
+    ensures { IfOk result (λ new. new ≡ out ++ sign "]" ∷ []) }
+{
+    out.text(b"]")
+}
+
+#[tactic(auto, unfolding(c_state::specs::CTokens::c_tokens, c_state::specs::CTokens::tokens_from))]
+pub(crate) fn open_brace(out: Writer) -> Put
+    ensures { IfOk result (λ new. new ≡ out ++ sign "{" ∷ []) }
+{
+    out.text(b"{")
+}
+
+#[tactic(auto, unfolding(c_state::specs::CTokens::c_tokens, c_state::specs::CTokens::tokens_from))]
+pub(crate) fn close_brace(out: Writer) -> Put
+    ensures { IfOk result (λ new. new ≡ out ++ sign "}" ∷ []) }
+{
+    out.text(b"}")
+}
+
+#[tactic(auto, unfolding(c_state::specs::CTokens::c_tokens, c_state::specs::CTokens::tokens_from))]
+pub(crate) fn tilde(out: Writer) -> Put
+    ensures { IfOk result (λ new. new ≡ out ++ sign "~" ∷ []) }
+{
+    out.text(b"~")
+}
+
+#[tactic(auto, unfolding(c_state::specs::CTokens::c_tokens, c_state::specs::CTokens::tokens_from))]
+pub(crate) fn minus(out: Writer) -> Put
+    ensures { IfOk result (λ new. new ≡ out ++ sign "-" ∷ []) }
+{
+    out.text(b"-")
+}
+
+#[tactic(auto, unfolding(c_state::specs::CTokens::c_tokens, c_state::specs::CTokens::tokens_from))]
+pub(crate) fn ampersand(out: Writer) -> Put
+    ensures { IfOk result (λ new. new ≡ out ++ sign "&" ∷ []) }
+{
+    out.text(b"&")
+}
+
+#[tactic(auto, unfolding(c_state::specs::CTokens::c_tokens, c_state::specs::CTokens::tokens_from))]
+pub(crate) fn dot(out: Writer) -> Put
+    ensures { IfOk result (λ new. new ≡ out ++ sign "." ∷ []) }
+{
+    out.text(b".")
+}
+
+#[tactic(auto, unfolding(c_state::specs::CTokens::c_tokens, c_state::specs::CTokens::tokens_from))]
+pub(crate) fn colon(out: Writer) -> Put
+    ensures { IfOk result (λ new. new ≡ out ++ sign ":" ∷ []) }
+{
+    out.text(b":")
+}
