@@ -2,7 +2,7 @@
 ghost use Rattle.std.specs.Prelude.{◌≡◌, ◌++◌, ◌∷◌, [], Some, None, IfOk};
 ghost use Rattle.c_state.specs.CTokens.{Word, sign, word};
 ghost use Rattle.c_tree.specs.Names.{letter_token, name_token, text, variable_token};
-ghost use Rattle.c_tree.specs.Values.{type_spelling, value_spelling};
+ghost use Rattle.c_tree.specs.Values.{string, type_spelling, value_spelling};
 ghost use Rattle.c_tree.specs.Forms.{IsCallee, IsStatement};
 ghost use Rattle.c_tree.specs.Statements.{arguments, assigned, between, buffer_of, callee_name, element, extent_of, field, given, method_of, number_spelling, statement_spelling, stored, table_of, test_spelling, view};
 ghost use Rattle.c_printer.specs.Before.{before};
@@ -38,11 +38,17 @@ fn invert(out: Writer, x: Variable, k: CValue) -> Put
     semicolon(value(tilde(to(out, x)?)?, k)?)
 }
 
-fn cast(out: Writer, x: Variable, it: CType, k: CValue) -> Put
-    ensures { IfOk result (λ new. new ≡ out ++ assigned x (sign "(" ∷ (type_spelling it ++ (sign ")" ∷ value_spelling k)))) }
+fn converted(out: Writer, it: CType, k: CValue) -> Put
+    ensures { IfOk result (λ new. new ≡ out ++ sign "(" ∷ (type_spelling it ++ (sign ")" ∷ value_spelling k))) }
 {
-    let out = kind(open(to(out, x)?)?, it)?;
-    semicolon(value(close(out)?, k)?)
+    let out = kind(open(out)?, it)?;
+    value(close(out)?, k)
+}
+
+fn cast(out: Writer, x: Variable, it: CType, k: CValue) -> Put
+    ensures { IfOk result (λ new. new ≡ out ++ (assigned x (sign "(" ∷ (type_spelling it ++ (sign ")" ∷ value_spelling k))))) }
+{
+    semicolon(converted(to(out, x)?, it, k)?)
 }
 
 fn destination(out: Writer, x: Option<Variable>) -> Put
@@ -74,38 +80,59 @@ fn store_field(out: Writer, p: FieldPlace, k: CValue) -> Put
     semicolon(value(equals(field_place(out, p)?)?, k)?)
 }
 
+fn table_address(out: Writer, n: Numbered) -> Put
+    ensures { IfOk result (λ new. new ≡ out ++ sign "&" ∷ name_token "cyc_t_" n ∷ []) }
+{
+    numbered(ampersand(out)?, b"cyc_t_", n)
+}
+
 fn store_table(out: Writer, y: Variable, n: Numbered) -> Put
     ensures { IfOk result (λ new. new ≡ out ++ stored (table_of y) (sign "&" ∷ name_token "cyc_t_" n ∷ [])) }
 {
-    let out = ampersand(equals(table_place(out, y)?)?)?;
-    semicolon(numbered(out, b"cyc_t_", n)?)
+    semicolon(table_address(equals(table_place(out, y)?)?, n)?)
+}
+
+fn method_call(out: Writer, n: Numbered, y: Variable, number: u32, all: &[Argument]) -> Put
+    ensures { IfOk result (λ new. new ≡ out ++ (method_of n y number ++ arguments all.now)) }
+{
+    all_arguments(method(out, n, y, number)?, all)
 }
 
 fn call_method(out: Writer, x: Option<Variable>, n: Numbered, y: Variable, number: u32, all: &[Argument]) -> Put
-    ensures { IfOk result (λ new. new ≡ out ++ given x (method_of n y number ++ arguments all.now)) }
+    ensures { IfOk result (λ new. new ≡ out ++ (given x (method_of n y number ++ arguments all.now))) }
 {
-    let out = method(destination(out, x)?, n, y, number)?;
-    semicolon(all_arguments(out, all)?)
+    semicolon(method_call(destination(out, x)?, n, y, number, all)?)
+}
+
+fn native_test(out: Writer, y: Variable, n: Numbered) -> Put
+    ensures { IfOk result (λ new. new ≡ out ++ (text "PyCFunction_Check(" ++ (variable_token y ∷ (text ") && PyCFunction_GetFunction(" ++ (variable_token y ∷ (text ") == (PyCFunction)(void (*)(void))" ++ (name_token "cyc_w_" n ∷ []))))))) }
+{
+    let out = variable(out.text(b"PyCFunction_Check(")?, y)?;
+    let out = variable(out.text(b") && PyCFunction_GetFunction(")?, y)?;
+    numbered(out.text(b") == (PyCFunction)(void (*)(void))")?, b"cyc_w_", n)
 }
 
 fn is_native(out: Writer, x: Variable, y: Variable, n: Numbered) -> Put
-    ensures { IfOk result (λ new. new ≡ out ++ statement_spelling (CStmt.IsNative x y n)) }
+    ensures { IfOk result (λ new. new ≡ out ++ (assigned x (text "PyCFunction_Check(" ++ (variable_token y ∷ (text ") && PyCFunction_GetFunction(" ++ (variable_token y ∷ (text ") == (PyCFunction)(void (*)(void))" ++ (name_token "cyc_w_" n ∷ [])))))))) }
 {
-    let out = variable(to(out, x)?.text(b"PyCFunction_Check(")?, y)?;
-    let out = variable(out.text(b") && PyCFunction_GetFunction(")?, y)?;
-    let out = out.text(b") == (PyCFunction)(void (*)(void))")?;
-    semicolon(numbered(out, b"cyc_w_", n)?)
+    semicolon(native_test(to(out, x)?, y, n)?)
+}
+
+fn heap_test(out: Writer, y: Variable) -> Put
+    ensures { IfOk result (λ new. new ≡ out ++ (text "PyType_HasFeature(Py_TYPE(" ++ (variable_token y ∷ text "), Py_TPFLAGS_HEAPTYPE)"))) }
+{
+    let out = variable(out.text(b"PyType_HasFeature(Py_TYPE(")?, y)?;
+    out.text(b"), Py_TPFLAGS_HEAPTYPE)")
 }
 
 fn has_heap_type(out: Writer, x: Variable, y: Variable) -> Put
-    ensures { IfOk result (λ new. new ≡ out ++ statement_spelling (CStmt.HasHeapType x y)) }
+    ensures { IfOk result (λ new. new ≡ out ++ (assigned x (text "PyType_HasFeature(Py_TYPE(" ++ (variable_token y ∷ text "), Py_TPFLAGS_HEAPTYPE)")))) }
 {
-    let out = variable(to(out, x)?.text(b"PyType_HasFeature(Py_TYPE(")?, y)?;
-    semicolon(out.text(b"), Py_TPFLAGS_HEAPTYPE)")?)
+    semicolon(heap_test(to(out, x)?, y)?)
 }
 
 fn goto(out: Writer, t: CTest, label: u32) -> Put
-    ensures { IfOk result (λ new. new ≡ out ++ test_spelling t ++ (word "goto" ∷ letter_token "L" label ∷ sign ";" ∷ [])) }
+    ensures { IfOk result (λ new. new ≡ out ++ (test_spelling t ++ (word "goto" ∷ letter_token "L" label ∷ sign ";" ∷ []))) }
 {
     let out = condition(out, t)?.word(b"goto", b"")?;
     semicolon(out.lettered(b"L", label)?)
@@ -129,68 +156,88 @@ fn free(out: Writer, x: Variable) -> Put
 }
 
 fn tell(out: Writer, x: Variable, y: Variable, n: ViewNumber) -> Put
-    ensures { IfOk result (λ new. new ≡ out ++ assigned x (buffer_of y ++ number_spelling n)) }
+    ensures { IfOk result (λ new. new ≡ out ++ (assigned x (buffer_of y ++ number_spelling n))) }
 {
     semicolon(told(buffer(to(out, x)?, y)?, n)?)
 }
 
-fn is_indirect(out: Writer, x: Variable, y: Variable) -> Put
-    ensures { IfOk result (λ new. new ≡ out ++ statement_spelling (CStmt.IsIndirect x y)) }
+fn indirect_test(out: Writer, y: Variable) -> Put
+    ensures { IfOk result (λ new. new ≡ out ++ (buffer_of y ++ text "suboffsets != NULL")) }
 {
-    semicolon(buffer(to(out, x)?, y)?.text(b"suboffsets != NULL")?)
+    buffer(out, y)?.text(b"suboffsets != NULL")
+}
+
+fn is_indirect(out: Writer, x: Variable, y: Variable) -> Put
+    ensures { IfOk result (λ new. new ≡ out ++ (assigned x (buffer_of y ++ text "suboffsets != NULL"))) }
+{
+    semicolon(indirect_test(to(out, x)?, y)?)
+}
+
+fn format_test(out: Writer, y: Variable, letters: &[u8]) -> Put
+    ensures { IfOk result (λ new. new ≡ out ++ (text "cyc_fmt(" ++ (buffer_of y ++ (text "format, " ++ (string letters.now ∷ text ")"))))) }
+{
+    let out = buffer(out.text(b"cyc_fmt(")?, y)?;
+    out.text(b"format, ")?.string(letters)?.text(b")")
 }
 
 fn has_format(out: Writer, x: Variable, y: Variable, letters: &[u8]) -> Put
-    ensures { IfOk result (λ new. new ≡ out ++ statement_spelling (CStmt.HasFormat x y letters.now)) }
+    ensures { IfOk result (λ new. new ≡ out ++ (assigned x (text "cyc_fmt(" ++ (buffer_of y ++ (text "format, " ++ (string letters.now ∷ text ")")))))) }
 {
-    let out = buffer(to(out, x)?.text(b"cyc_fmt(")?, y)?;
-    let out = out.text(b"format, ")?.string(letters)?;
-    semicolon(out.text(b")")?)
+    semicolon(format_test(to(out, x)?, y, letters)?)
 }
 
 fn buffer_place(out: Writer, v: ViewPlace) -> Put
-    ensures { IfOk result (λ new. new ≡ out ++ view v ++ text ".buf") }
+    ensures { IfOk result (λ new. new ≡ out ++ (view v ++ text ".buf")) }
 {
     view_place(out, v)?.text(b".buf")
 }
 
-fn take_buffer(out: Writer, v: ViewPlace, y: Variable) -> Put
-    ensures { IfOk result (λ new. new ≡ out ++ statement_spelling (CStmt.TakeBuffer v y)) }
+fn taken(out: Writer, y: Variable) -> Put
+    ensures { IfOk result (λ new. new ≡ out ++ (text "(char *)" ++ (buffer_of y ++ text "buf"))) }
 {
-    let out = equals(buffer_place(out, v)?)?.text(b"(char *)")?;
-    semicolon(buffer(out, y)?.text(b"buf")?)
+    buffer(out.text(b"(char *)")?, y)?.text(b"buf")
+}
+
+fn take_buffer(out: Writer, v: ViewPlace, y: Variable) -> Put
+    ensures { IfOk result (λ new. new ≡ out ++ (stored (view v ++ text ".buf") (text "(char *)" ++ (buffer_of y ++ text "buf")))) }
+{
+    semicolon(taken(equals(buffer_place(out, v)?)?, y)?)
 }
 
 fn copy_buffer(out: Writer, v: ViewPlace, w: ViewPlace) -> Put
-    ensures { IfOk result (λ new. new ≡ out ++ stored (view v ++ text ".buf") (view w ++ text ".buf")) }
+    ensures { IfOk result (λ new. new ≡ out ++ (stored (view v ++ text ".buf") (view w ++ text ".buf"))) }
 {
     let out = equals(buffer_place(out, v)?)?;
     semicolon(buffer_place(out, w)?)
 }
 
-fn move_buffer(out: Writer, v: ViewPlace, k: CValue) -> Put
-    ensures { IfOk result (λ new. new ≡ out ++ statement_spelling (CStmt.MoveBuffer v k)) }
+fn moved(out: Writer, v: ViewPlace, k: CValue) -> Put
+    ensures { IfOk result (λ new. new ≡ out ++ (view v ++ (text ".buf + " ++ value_spelling k))) }
 {
-    let out = equals(buffer_place(out, v)?)?;
-    let out = view_place(out, v)?.text(b".buf + ")?;
-    semicolon(value(out, k)?)
+    value(view_place(out, v)?.text(b".buf + ")?, k)
+}
+
+fn move_buffer(out: Writer, v: ViewPlace, k: CValue) -> Put
+    ensures { IfOk result (λ new. new ≡ out ++ (stored (view v ++ text ".buf") (view v ++ (text ".buf + " ++ value_spelling k)))) }
+{
+    semicolon(moved(equals(buffer_place(out, v)?)?, v, k)?)
 }
 
 fn memory_place(out: Writer, v: ViewPlace) -> Put
-    ensures { IfOk result (λ new. new ≡ out ++ view v ++ text ".mv") }
+    ensures { IfOk result (λ new. new ≡ out ++ (view v ++ text ".mv")) }
 {
     view_place(out, v)?.text(b".mv")
 }
 
 fn store_memory(out: Writer, v: ViewPlace, k: CValue) -> Put
-    ensures { IfOk result (λ new. new ≡ out ++ stored (view v ++ text ".mv") (value_spelling k)) }
+    ensures { IfOk result (λ new. new ≡ out ++ (stored (view v ++ text ".mv") (value_spelling k))) }
 {
     let out = equals(memory_place(out, v)?)?;
     semicolon(value(out, k)?)
 }
 
 fn load_memory(out: Writer, x: Variable, v: ViewPlace) -> Put
-    ensures { IfOk result (λ new. new ≡ out ++ assigned x (view v ++ text ".mv")) }
+    ensures { IfOk result (λ new. new ≡ out ++ (assigned x (view v ++ text ".mv"))) }
 {
     semicolon(memory_place(to(out, x)?, v)?)
 }

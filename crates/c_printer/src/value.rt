@@ -71,7 +71,7 @@ fn magnitude(out: Writer, digits: u64, suffix: &[u8]) -> Put
 
 fn negative(out: Writer, digits: u64, suffix: &[u8]) -> Put
     requires { AreWordBytes suffix.now }
-    ensures { IfOk result (λ new. new ≡ out ++ negative (decimal digits ++ suffix.now)) }
+    ensures { IfOk result (λ new. new ≡ out ++ (negative (decimal digits ++ suffix.now))) }
 {
     let out = minus(open(out)?)?;
     close(magnitude(out, digits, suffix)?)
