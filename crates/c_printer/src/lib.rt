@@ -1,6 +1,7 @@
 //! The printer of C trees.
 #![tactic(auto)]
 
+mod function;
 mod head;
 mod mark;
 mod name;
