@@ -7,4 +7,5 @@ mod mark;
 mod name;
 mod place;
 mod statement;
+mod structs;
 mod value;

@@ -1,5 +1,5 @@
 -- Which trees are of the profile: their numbers, names and literals are in range. The project's own.
-use Rattle.std.specs.Prelude.{◌≡◌, ◌≢◌, ℕ, ◌^◌, ◌<◌, ℤ, pos, neg_ℤ, ◌≤ℤ◌, List, [], ◌∷◌, Bool, true, false, Option, Some, None, length, ⊤, codes}
+use Rattle.std.specs.Prelude.{◌≡◌, ◌≢◌, ℕ, suc, ◌^◌, ◌<◌, ℤ, pos, neg_ℤ, ◌≤ℤ◌, List, [], ◌∷◌, Bool, true, false, Option, Some, None, length, ⊤, codes}
 use Rattle.std.specs.Char.{is_ascii_digit}
 use Rattle.std.specs.List.{list_any, AllByRecursion}
 use Rattle.std.specs.Str.{bytes_eq}
@@ -214,8 +214,13 @@ LabelsStand (line.Statement s ∷ lines) = LabelsStand lines
 
 -- ---- items
 
+-- a variable of the function, and no place of the file
+abbrev pub IsDeclared : Variable → Type 0
+IsDeclared (variable.Place x) = ⊥
+IsDeclared x = IsVariable x
+
 abbrev pub IsDeclaration : Declaration → Type 0
-IsDeclaration d = IsVariable d.variable
+IsDeclaration d = IsDeclared d.variable
 
 abbrev pub IsParameter : Parameter → Type 0
 IsParameter p = IsNumber p.number
@@ -246,6 +251,17 @@ abbrev pub IsTableBase : TableBase → Type 0
 IsTableBase table_base.Name = ⊤
 IsTableBase (table_base.Class n) = IsNumbered n
 
+-- the slots' numbers rise by one
+abbrev pub AreNumberedFrom : ℕ → List Slot → Type 0
+AreNumberedFrom j [] = ⊤
+AreNumberedFrom j (slot ∷ slots) = (slot.number ≡ j) × IsNumber j × AreNumberedFrom (suc j) slots
+
+-- slots are numbered through the whole table: from 0 where it has no base, else from wherever the base's end
+abbrev pub AreSlots : TableBase → List Slot → Type 0
+AreSlots table_base.Name slots = AreNumberedFrom 0 slots
+AreSlots (table_base.Class n) [] = ⊤
+AreSlots (table_base.Class n) (slot ∷ slots) = AreNumberedFrom slot.number (slot ∷ slots)
+
 abbrev pub IsTableName : TableName → Type 0
 IsTableName table.OfFile = ⊤
 IsTableName (table.OfClass n) = IsNumbered n
@@ -261,7 +277,7 @@ IsSetter (Some f) = IsFieldNumber f
 abbrev pub IsProperty : PropertyRow → Type 0
 IsProperty p = IsString p.name × IsFieldNumber p.getter × IsSetter p.setter
 
--- one of two members stands in a table, or both
+-- one of two members stands in a table, or both: C has no empty braces (ISO/IEC 9899:2011 6.7.9)
 abbrev pub AreMembers : Option Numbered → Option Numbered → Type 0
 AreMembers None None = ⊥
 AreMembers a b = IsMember a × IsMember b
@@ -274,7 +290,7 @@ IsType t =
 -- a tree of the profile
 unfoldable pub IsItem : CItem → Type 0
 IsItem (item.InstanceStruct n b kinds) = IsNumbered n × IsBase b × IsNumber (length kinds)
-IsItem (item.TableStruct n b slots) = IsNumbered n × IsTableBase b × AllByRecursion (λ s. IsNumber s.number) slots
+IsItem (item.TableStruct n b slots) = IsNumbered n × IsTableBase b × AreSlots b slots
 IsItem (item.Table t) = IsNumbered t.class × IsString t.name × AllByRecursion IsFunctionName t.inner × AllByRecursion (AllByRecursion IsFunctionName) t.outer
 IsItem (item.Prototype kind f kinds) = IsFunctionName f
 IsItem (item.StaticPrototype kind f kinds) = IsFunctionName f
