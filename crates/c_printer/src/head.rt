@@ -161,11 +161,11 @@ fn body(out: Writer) -> Put
     out.text(b"(void)")
 }
 
-fn initializer(out: Writer, module: &[u8]) -> Put
-    requires { AreWordBytes module.now }
-    ensures { IfOk result (λ new. new ≡ out ++ fixed_head "PyMODINIT_FUNC" (name.Initializer module.now) "(void)") }
+fn initializer(out: Writer, letters: &[u8]) -> Put
+    requires { AreWordBytes letters.now }
+    ensures { IfOk result (λ new. new ≡ out ++ fixed_head "PyMODINIT_FUNC" (name.Initializer letters.now) "(void)") }
 {
-    let out = out.text(b"PyMODINIT_FUNC")?.word(b"PyInit_", module)?;
+    let out = out.text(b"PyMODINIT_FUNC")?.word(b"PyInit_", letters)?;
     out.text(b"(void)")
 }
 
@@ -186,6 +186,6 @@ pub(crate) fn head(out: Writer, it: &CHead) -> Put
         CHead::Getter(n) => getting(out, *n),
         CHead::Setter(n) => setting(out, *n),
         CHead::Body => body(out),
-        CHead::Initializer(module) => initializer(out, module.as_slice()),
+        CHead::Initializer(letters) => initializer(out, letters.as_slice()),
     }
 }

@@ -8,5 +8,5 @@ use Rattle.c_printer.proofs.head.some_types.Goals as goal
 
 pub returns-in_ok-kind-in-Some : goal.returns-in_ok-kind-in-Some
 returns-in_ok-kind-in-Some c =
-    rw (c.in-Some.ensures.cases, no_void c.in-Some.first.now (flat_map (λ k. sign "," ∷ type_spelling k) c.in-Some.more.now))
+    rw (c.in-Some.ensures.cases.0, no_void c.in-Some.first.now (flat_map (λ k. sign "," ∷ type_spelling k) c.in-Some.more.now))
     (behind _ c.args.out c.in_ok-kind-in-Some.field-0 _ _ c.in_ok-kind-in-Some.ensures c.more_types.ensures)
