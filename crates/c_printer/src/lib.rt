@@ -8,4 +8,5 @@ mod name;
 mod place;
 mod statement;
 mod structs;
+mod tables;
 mod value;

@@ -104,3 +104,10 @@ pub(crate) fn colon(out: Writer) -> Put
 {
     out.text(b":")
 }
+
+/// Begins a line, which belongs to no token.
+pub(crate) fn line(out: Writer) -> Put
+    ensures { IfOk result (λ new. new ≡ out ++ []) }
+{
+    out.fresh()
+}
