@@ -1,0 +1,8 @@
+//! The tokens of a C text.
+#![tactic(auto)]
+
+mod byte;
+mod lex;
+mod mode;
+
+pub use lex::tokens;
