@@ -1,12 +1,12 @@
 -- The steps of the reading, by what their tests say.
-use Rattle.std.proofs.Common.{◌≡◌, ℕ, Bool, true, false, not, ◌&&◌, ◌||◌, List, [], ◌∷◌, ◌++◌, refl, sym, ap, ◌∙◌, subst, drop, get_or, length, ◌+◌, ◌<◌, Result, slice_index}
-use Rattle.std.specs.Prelude.{nat_eq, if◌then◌else◌, IfOk, OnOk}
+use Rattle.std.proofs.Common.{◌≡◌, ℕ, Bool, true, false, not, ◌&&◌, ◌||◌, List, [], ◌∷◌, ◌++◌, refl, sym, ap, ◌∙◌, append_assoc, drop, length, ◌+◌, ◌<◌, ◌≤◌, slice_index}
+use Rattle.std.specs.Prelude.{nat_eq, if◌then◌else◌}
 use Rattle.std.specs.List.{list_any, list_all}
 use Rattle.std.specs.Str.{bytes_eq}
 use Rattle.std.proofs.lemmas.Bool.{eq-eqb}
 use Rattle.std.proofs.lemmas.Slice.Eq.{bytes_eq-Decides}
-use Rattle.std.proofs.lemmas.List.{at_drop_more}
-use Rattle.c_state.specs.CTokens.{CToken, Word, Sign, CLine, Mode, Between, InWord, InSign, Fresh, Step, goes_on, ends, is_word_byte, is_long_sign, long_signs, step, tokens_from, c_tokens}
+use Rattle.std.proofs.lemmas.List.{at_drop_more, at_drop_all}
+use Rattle.c_state.specs.CTokens.{CToken, Word, Sign, CLine, Mode, Between, InWord, InSign, InQuotes, AfterBackslash, InHeader, Fresh, goes_on, ends, is_word_byte, is_long_sign, long_signs, step, tokens_from, c_tokens}
 
 pub word_goes_on : (line : CLine) (letters : List ℕ) (b : ℕ) → is_word_byte b ≡ true → step (InWord line letters) b ≡ goes_on (InWord line (letters ++ b ∷ []))
 word_goes_on line letters b h = ap (λ (t : Bool). if t then goes_on (InWord line (letters ++ b ∷ [])) else ends (Word letters) line b) h
@@ -19,6 +19,16 @@ sign_goes_on line letters b h = ap (λ (t : Bool). if t then goes_on (InSign lin
 
 pub sign_ends : (line : CLine) (letters : List ℕ) (b : ℕ) → is_long_sign (letters ++ b ∷ []) ≡ false → step (InSign line letters) b ≡ ends (Sign letters) line b
 sign_ends line letters b h = ap (λ (t : Bool). if t then goes_on (InSign line (letters ++ b ∷ [])) else ends (Sign letters) line b) h
+
+pub quotes_go_on : (line : CLine) (quote : ℕ) (letters : List ℕ) (b : ℕ) → nat_eq b 10 ≡ false → nat_eq b 92 ≡ false → nat_eq b quote ≡ false
+    → step (InQuotes line quote letters) b ≡ goes_on (InQuotes line quote (letters ++ b ∷ []))
+quotes_go_on line quote letters b e f g = rw (e, f, g) refl
+
+pub quotes_escape : (line : CLine) (quote : ℕ) (letters : List ℕ) (b : ℕ) → b ≡ 92 → step (InQuotes line quote letters) b ≡ goes_on (AfterBackslash line quote (letters ++ b ∷ []))
+quotes_escape line quote letters b e = rw e refl
+
+pub header_goes_on : (letters : List ℕ) (b : ℕ) → nat_eq b 10 ≡ false → nat_eq b 62 ≡ false → step (InHeader letters) b ≡ goes_on (InHeader (letters ++ b ∷ []))
+header_goes_on letters b e f = rw (e, f) refl
 
 -- ---- a sign ends at the end of the text
 
@@ -60,11 +70,27 @@ pub from_start : (text : List ℕ) → c_tokens text ≡ tokens_from (Between Fr
 unfolding c_tokens
 from_start text = refl
 
-pub at_end : (mode : Mode) → tokens_from mode [] ≡ (step mode 10).given
-unfolding tokens_from
-at_end mode = refl
-
-pub one_more : (mode : Mode) (text : List ℕ) (at : ℕ) → at < length text
+one_more : (mode : Mode) (text : List ℕ) (at : ℕ) → at < length text
     → tokens_from mode (drop at text) ≡ (step mode (slice_index text at)).given ++ tokens_from (step mode (slice_index text at)).next (drop (at + 1) text)
 unfolding tokens_from
 one_more mode text at h = at_drop_more (tokens_from mode) text at 0 h
+
+none_more : (mode : Mode) (text : List ℕ) (at : ℕ) → length text ≤ at → tokens_from mode (drop at text) ≡ (step mode 10).given
+unfolding tokens_from
+none_more mode text at h = at_drop_all (tokens_from mode) text at h
+
+-- one turn of the loop, and its end
+pub turned : (all found more : List CToken) (mode next : Mode) (text : List ℕ) (at : ℕ) → at < length text → all ≡ found ++ tokens_from mode (drop at text)
+    → more ≡ found ++ (step mode (slice_index text at)).given → next ≡ (step mode (slice_index text at)).next → all ≡ more ++ tokens_from next (drop (at + 1) text)
+turned all found more mode next text at h same given goes =
+    let b = slice_index text at in
+    let rest = drop (at + 1) text in
+    same
+    ∙ (ap (λ t. found ++ t) (one_more mode text at h)
+    ∙ (sym (append_assoc found (step mode b).given (tokens_from (step mode b).next rest))
+    ∙ (ap (λ t. t ++ tokens_from (step mode b).next rest) (sym given)
+    ∙ ap (λ m. more ++ tokens_from m rest) (sym goes))))
+
+pub finished : (all found more : List CToken) (mode : Mode) (text : List ℕ) (at : ℕ) → length text ≤ at → all ≡ found ++ tokens_from mode (drop at text)
+    → more ≡ found ++ (step mode 10).given → more ≡ all
+finished all found more mode text at h same given = given ∙ (ap (λ t. found ++ t) (sym (none_more mode text at h)) ∙ sym same)

@@ -86,8 +86,8 @@ fn begin_sign(
 ) -> Result<Mode, OutOfMemory>
     requires { at < length bytes.now }
     ensures given { OnOk result (item_shown tokens.new.items ≡ item_shown tokens.old.items ++ (begin Joining (line_shown line) (slice_index bytes.now at)).given) }
-    ensures next { IfOk result (λ mode. mode_shown bytes.now (at + 1) mode ≡ (begin Joining (line_shown line) (slice_index bytes.now at)).next) }
-    ensures starts { IfOk result (λ mode. start_of mode ≤ at + 1) }
+    ensures next { IfOk result (λ next. mode_shown bytes.now (at + 1) next ≡ (begin Joining (line_shown line) (slice_index bytes.now at)).next) }
+    ensures starts { IfOk result (λ next. start_of next ≤ at + 1) }
 {
     let b = bytes[at];
     match line {
@@ -111,16 +111,11 @@ fn begin_sign(
 }
 
 // A byte between tokens.
-fn begin(
-    tokens: &mut Vec<Token>,
-    line: Line,
-    bytes: &[u8],
-    at: usize,
-) -> Result<Mode, OutOfMemory>
+fn begin(tokens: &mut Vec<Token>, line: Line, bytes: &[u8], at: usize) -> Result<Mode, OutOfMemory>
     requires { at < length bytes.now }
     ensures given { OnOk result (item_shown tokens.new.items ≡ item_shown tokens.old.items ++ (begin (kind_of (slice_index bytes.now at)) (line_shown line) (slice_index bytes.now at)).given) }
-    ensures next { IfOk result (λ mode. mode_shown bytes.now (at + 1) mode ≡ (begin (kind_of (slice_index bytes.now at)) (line_shown line) (slice_index bytes.now at)).next) }
-    ensures starts { IfOk result (λ mode. start_of mode ≤ at + 1) }
+    ensures next { IfOk result (λ next. mode_shown bytes.now (at + 1) next ≡ (begin (kind_of (slice_index bytes.now at)) (line_shown line) (slice_index bytes.now at)).next) }
+    ensures starts { IfOk result (λ next. start_of next ≤ at + 1) }
 {
     let b = bytes[at];
     match byte::kind_of(b) {
@@ -163,8 +158,8 @@ fn end_token(
 ) -> Result<Mode, OutOfMemory>
     requires { at < length bytes.now }
     ensures given { OnOk result (item_shown tokens.new.items ≡ item_shown tokens.old.items ++ (ends (token_shown token) (line_shown line) (slice_index bytes.now at)).given) }
-    ensures next { IfOk result (λ mode. mode_shown bytes.now (at + 1) mode ≡ (ends (token_shown token) (line_shown line) (slice_index bytes.now at)).next) }
-    ensures starts { IfOk result (λ mode. start_of mode ≤ at + 1) }
+    ensures next { IfOk result (λ next. mode_shown bytes.now (at + 1) next ≡ (ends (token_shown token) (line_shown line) (slice_index bytes.now at)).next) }
+    ensures starts { IfOk result (λ next. start_of next ≤ at + 1) }
 {
     let line = close(tokens, token, line)?;
     begin(tokens, line, bytes, at)
@@ -180,8 +175,8 @@ fn in_word(
     requires inside { at < length bytes.now }
     requires begun { start ≤ at }
     ensures given { OnOk result (item_shown tokens.new.items ≡ item_shown tokens.old.items ++ (step (mode_shown bytes.now at (Mode.InWord line start)) (slice_index bytes.now at)).given) }
-    ensures next { IfOk result (λ mode. mode_shown bytes.now (at + 1) mode ≡ (step (mode_shown bytes.now at (Mode.InWord line start)) (slice_index bytes.now at)).next) }
-    ensures starts { IfOk result (λ mode. start_of mode ≤ at + 1) }
+    ensures next { IfOk result (λ next. mode_shown bytes.now (at + 1) next ≡ (step (mode_shown bytes.now at (Mode.InWord line start)) (slice_index bytes.now at)).next) }
+    ensures starts { IfOk result (λ next. start_of next ≤ at + 1) }
 {
     if byte::is_word_byte(bytes[at]) {
         return Ok(Mode::InWord(line, start));
@@ -200,8 +195,8 @@ fn in_sign(
     requires inside { at < length bytes.now }
     requires begun { start ≤ at }
     ensures given { OnOk result (item_shown tokens.new.items ≡ item_shown tokens.old.items ++ (step (mode_shown bytes.now at (Mode.InSign line start)) (slice_index bytes.now at)).given) }
-    ensures next { IfOk result (λ mode. mode_shown bytes.now (at + 1) mode ≡ (step (mode_shown bytes.now at (Mode.InSign line start)) (slice_index bytes.now at)).next) }
-    ensures starts { IfOk result (λ mode. start_of mode ≤ at + 1) }
+    ensures next { IfOk result (λ next. mode_shown bytes.now (at + 1) next ≡ (step (mode_shown bytes.now at (Mode.InSign line start)) (slice_index bytes.now at)).next) }
+    ensures starts { IfOk result (λ next. start_of next ≤ at + 1) }
 {
     if byte::is_long_sign(&bytes[start..at + 1]) {
         return Ok(Mode::InSign(line, start));
@@ -220,7 +215,6 @@ fn quoted(quote: u8, bytes: Bytes) -> Token
     }
 }
 
-#[tactic(auto, using(crate::proofs::Ranges::range_more))]
 fn in_quotes(
     tokens: &mut Vec<Token>,
     line: Line,
@@ -232,8 +226,8 @@ fn in_quotes(
     requires inside { at < length bytes.now }
     requires begun { start ≤ at }
     ensures given { OnOk result (item_shown tokens.new.items ≡ item_shown tokens.old.items ++ (step (mode_shown bytes.now at (Mode.InQuotes line quote start)) (slice_index bytes.now at)).given) }
-    ensures next { IfOk result (λ mode. mode_shown bytes.now (at + 1) mode ≡ (step (mode_shown bytes.now at (Mode.InQuotes line quote start)) (slice_index bytes.now at)).next) }
-    ensures starts { IfOk result (λ mode. start_of mode ≤ at + 1) }
+    ensures next { IfOk result (λ next. mode_shown bytes.now (at + 1) next ≡ (step (mode_shown bytes.now at (Mode.InQuotes line quote start)) (slice_index bytes.now at)).next) }
+    ensures starts { IfOk result (λ next. start_of next ≤ at + 1) }
 {
     let b = bytes[at];
     if b == b'\n' {
@@ -261,8 +255,8 @@ fn after_backslash(
     requires inside { at < length bytes.now }
     requires begun { start ≤ at }
     ensures given { OnOk result (item_shown tokens.new.items ≡ item_shown tokens.old.items ++ (step (mode_shown bytes.now at (Mode.AfterBackslash line quote start)) (slice_index bytes.now at)).given) }
-    ensures next { IfOk result (λ mode. mode_shown bytes.now (at + 1) mode ≡ (step (mode_shown bytes.now at (Mode.AfterBackslash line quote start)) (slice_index bytes.now at)).next) }
-    ensures starts { IfOk result (λ mode. start_of mode ≤ at + 1) }
+    ensures next { IfOk result (λ next. mode_shown bytes.now (at + 1) next ≡ (step (mode_shown bytes.now at (Mode.AfterBackslash line quote start)) (slice_index bytes.now at)).next) }
+    ensures starts { IfOk result (λ next. start_of next ≤ at + 1) }
 {
     if bytes[at] == b'\n' {
         return end_token(tokens, Token::Other(quote), line, bytes, at);
@@ -270,7 +264,6 @@ fn after_backslash(
     Ok(Mode::InQuotes(line, quote, start))
 }
 
-#[tactic(auto, using(crate::proofs::Ranges::range_more))]
 fn in_header(
     tokens: &mut Vec<Token>,
     start: usize,
@@ -280,8 +273,8 @@ fn in_header(
     requires inside { at < length bytes.now }
     requires begun { start ≤ at }
     ensures given { OnOk result (item_shown tokens.new.items ≡ item_shown tokens.old.items ++ (step (mode_shown bytes.now at (Mode.InHeader start)) (slice_index bytes.now at)).given) }
-    ensures next { IfOk result (λ mode. mode_shown bytes.now (at + 1) mode ≡ (step (mode_shown bytes.now at (Mode.InHeader start)) (slice_index bytes.now at)).next) }
-    ensures starts { IfOk result (λ mode. start_of mode ≤ at + 1) }
+    ensures next { IfOk result (λ next. mode_shown bytes.now (at + 1) next ≡ (step (mode_shown bytes.now at (Mode.InHeader start)) (slice_index bytes.now at)).next) }
+    ensures starts { IfOk result (λ next. start_of next ≤ at + 1) }
 {
     let b = bytes[at];
     if b == b'\n' {
@@ -296,17 +289,12 @@ fn in_header(
 }
 
 // A byte in any mode.
-fn step(
-    tokens: &mut Vec<Token>,
-    mode: Mode,
-    bytes: &[u8],
-    at: usize,
-) -> Result<Mode, OutOfMemory>
+fn step(tokens: &mut Vec<Token>, mode: Mode, bytes: &[u8], at: usize) -> Result<Mode, OutOfMemory>
     requires inside { at < length bytes.now }
     requires begun { start_of mode ≤ at }
     ensures given { OnOk result (item_shown tokens.new.items ≡ item_shown tokens.old.items ++ (step (mode_shown bytes.now at mode) (slice_index bytes.now at)).given) }
-    ensures next { IfOk result (λ mode. mode_shown bytes.now (at + 1) mode ≡ (step (mode_shown bytes.now at mode) (slice_index bytes.now at)).next) }
-    ensures starts { IfOk result (λ mode. start_of mode ≤ at + 1) }
+    ensures next { IfOk result (λ next. mode_shown bytes.now (at + 1) next ≡ (step (mode_shown bytes.now at mode) (slice_index bytes.now at)).next) }
+    ensures starts { IfOk result (λ next. start_of next ≤ at + 1) }
 {
     match mode {
         Mode::Between(line) => begin(tokens, line, bytes, at),

@@ -4,5 +4,7 @@
 mod byte;
 mod lex;
 mod mode;
+#[cfg(test)]
+mod tests;
 
 pub use lex::tokens;

@@ -15,7 +15,7 @@ returns-then-is_long_sign-clause-given c =
     let letters = slice_range text c.args.start c.args.at in
     let b = slice_index text c.args.at in
     let long : spec.is_long_sign (letters ++ b ∷ []) ≡ true =
-        ap spec.is_long_sign (sym (range_more text c.args.start c.args.at c.requires.begun c.requires.inside)) ∙ (sym c.is_long_sign.ensures ∙ c.if-is_long_sign.true) in
+    ap spec.is_long_sign (sym (range_more text c.args.start c.args.at c.requires.begun c.requires.inside)) ∙ (sym c.is_long_sign.ensures ∙ c.if-is_long_sign.true) in
     sym (append-nil (item_shown c.args.tokens.now.items))
     ∙ ap (λ (s : spec.Step). item_shown c.args.tokens.now.items ++ s.given) (sym (sign_goes_on line letters b long))
 
@@ -27,7 +27,7 @@ returns-then-is_long_sign-clause-next c =
     let b = slice_index text c.args.at in
     let longer = range_more text c.args.start c.args.at c.requires.begun c.requires.inside in
     let long : spec.is_long_sign (letters ++ b ∷ []) ≡ true =
-        ap spec.is_long_sign (sym longer) ∙ (sym c.is_long_sign.ensures ∙ c.if-is_long_sign.true) in
+    ap spec.is_long_sign (sym longer) ∙ (sym c.is_long_sign.ensures ∙ c.if-is_long_sign.true) in
     ap (λ (w : List ℕ). spec.InSign line w) longer
     ∙ ap (λ (s : spec.Step). s.next) (sym (sign_goes_on line letters b long))
 
@@ -38,7 +38,7 @@ returns-clause-given c =
     let letters = slice_range text c.args.start c.args.at in
     let b = slice_index text c.args.at in
     let short : spec.is_long_sign (letters ++ b ∷ []) ≡ false =
-        ap spec.is_long_sign (sym (range_more text c.args.start c.args.at c.requires.begun c.requires.inside)) ∙ (sym c.is_long_sign.ensures ∙ c.if-is_long_sign.false) in
+    ap spec.is_long_sign (sym (range_more text c.args.start c.args.at c.requires.begun c.requires.inside)) ∙ (sym c.is_long_sign.ensures ∙ c.if-is_long_sign.false) in
     let same = ap (λ (w : List ℕ). spec.ends (spec.Sign w) line b) c.in_ok-copied.ensures ∙ sym (sign_ends line letters b short) in
     subst (λ (s : spec.Step). OnOk c.end_token.result (item_shown c.end_token.new.tokens.items ≡ item_shown c.args.tokens.now.items ++ s.given)) same c.end_token.ensures.given
 
@@ -49,6 +49,6 @@ returns-clause-next c =
     let letters = slice_range text c.args.start c.args.at in
     let b = slice_index text c.args.at in
     let short : spec.is_long_sign (letters ++ b ∷ []) ≡ false =
-        ap spec.is_long_sign (sym (range_more text c.args.start c.args.at c.requires.begun c.requires.inside)) ∙ (sym c.is_long_sign.ensures ∙ c.if-is_long_sign.false) in
+    ap spec.is_long_sign (sym (range_more text c.args.start c.args.at c.requires.begun c.requires.inside)) ∙ (sym c.is_long_sign.ensures ∙ c.if-is_long_sign.false) in
     let same = ap (λ (w : List ℕ). spec.ends (spec.Sign w) line b) c.in_ok-copied.ensures ∙ sym (sign_ends line letters b short) in
     subst (λ (s : spec.Step). IfOk c.end_token.result (λ mode. mode_shown text (c.args.at + 1) mode ≡ s.next)) same c.end_token.ensures.next

@@ -1,4 +1,4 @@
-use Rattle.std.proofs.Common.{◌≡◌, List, ℕ, ap, sym, ◌∙◌, slice_index}
+use Rattle.std.proofs.Common.{List, ℕ, ap, sym, ◌∙◌, slice_index}
 use Rattle.std.specs.Prelude.{slice_range}
 use Rattle.c_state.specs.CTokens as spec
 use Rattle.c_lex.specs.Shown.{line_shown}

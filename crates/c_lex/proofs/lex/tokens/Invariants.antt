@@ -7,6 +7,6 @@ use Rattle.c_lex.proofs.lex.tokens.Given as goal
 -- the tokens so far, and those of the rest
 abbrev pub invariant-loop-at : goal.invariant-loop-at
 invariant-loop-at l = record {
-    same : c_tokens l.bytes ≡ item_shown l.found.items ++ tokens_from (mode_shown l.bytes l.at l.mode) (drop l.at l.bytes);
-    begun : start_of l.mode ≤ l.at
+  same : c_tokens l.bytes ≡ item_shown l.found.items ++ tokens_from (mode_shown l.bytes l.at l.mode) (drop l.at l.bytes);
+  begun : start_of l.mode ≤ l.at;
 }
