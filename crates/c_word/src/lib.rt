@@ -1,6 +1,8 @@
 //! What the words of C texts mean: numbers, and the names that the written C has.
 #![tactic(auto)]
 
+mod names;
 mod numbers;
 
-pub use numbers::number;
+pub use names::fixed;
+pub use numbers::{lettered, number, numbered, of_field};

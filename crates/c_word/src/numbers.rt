@@ -91,3 +91,17 @@ pub fn numbered(letters: &[u8], bytes: &[u8]) -> Option<Numbered>
     let (module, index) = pair(behind(letters, bytes)?)?;
     Some(Numbered { module, index })
 }
+
+/// The class and the field in it behind the letters.
+pub fn of_field(letters: &[u8], bytes: &[u8]) -> Option<FieldNumber>
+    ensures some { IfSome result (λ f. IsFieldNumber f × ((letters.now ++ two_numbers f.class.module f.class.index) ++ (codes "_" ++ decimal f.field) ≡ bytes.now)) }
+    ensures every { (f : FieldValue) → IsFieldNumber f → (letters.now ++ two_numbers f.class.module f.class.index) ++ (codes "_" ++ decimal f.field) ≡ bytes.now → result ≡ Some f }
+{
+    let (module, rest) = halves(behind(letters, bytes)?)?;
+    let module = number(module)?;
+    let (index, field) = pair(rest)?;
+    Some(FieldNumber {
+        class: Numbered { module, index },
+        field,
+    })
+}
