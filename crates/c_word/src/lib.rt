@@ -4,5 +4,5 @@
 mod names;
 mod numbers;
 
-pub use names::fixed;
+pub use names::{exception, table, variable};
 pub use numbers::{lettered, number, numbered, of_field};
