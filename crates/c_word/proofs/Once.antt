@@ -1,6 +1,6 @@
 -- No two variables, places, tables, exceptions or functions in form have one name.
-use Rattle.std.proofs.Common.{◌≡◌, ℕ, ◌+◌, ◌^◌, ◌<◌, ◌≤◌, Bool, true, false, List, [], ◌∷◌, ◌++◌, Some, None, length, get_or, refl, sym, ap, ◌∙◌, subst, append_assoc, arith, decimal}
-use Rattle.std.specs.Prelude.{nat_eq, if◌then◌else◌, codes}
+use Rattle.std.proofs.Common.{◌≡◌, ℕ, ◌+◌, ◌^◌, ◌<◌, ◌≤◌, Bool, true, false, List, [], ◌∷◌, ◌++◌, Option, Some, None, Result, Ok, Err, length, get_or, refl, sym, ap, ◌∙◌, subst, append_assoc, arith, decimal}
+use Rattle.std.specs.Prelude.{nat_eq, if◌then◌else◌, codes, IfOk, IfSome, MatchOption}
 use Rattle.std.specs.Bool.{Decides}
 use Rattle.std.specs.Str.{bytes_eq}
 use Rattle.std.proofs.lemmas.Bool.{eq-eqb, ne_eqb}
@@ -19,7 +19,7 @@ use Rattle.c_tree.specs.declared.name.Variable.{Variable}
 use Rattle.c_tree.specs.declared.name.Variable.TheVariants as variable
 use Rattle.c_tree.specs.Names.{fixed_name, function_name, place_name, variable_name}
 use Rattle.c_tree.specs.Values.{exception_name}
-use Rattle.c_tree.specs.Forms.{IsFunctionName, IsFieldNumber, IsNumber, IsNumbered, IsPlace, IsVariable}
+use Rattle.c_tree.specs.Forms.{IsFunctionName, IsFieldNumber, IsIdentifier, IsNumber, IsNumbered, IsPlace, IsVariable}
 use Rattle.c_word.specs.Numbers.{AreDigits, two_numbers}
 use Rattle.c_word.proofs.Halves.{decimal_digits}
 use Rattle.c_word.proofs.Parts.{field_parts}
@@ -29,8 +29,11 @@ use Rattle.c_word.proofs.Parts.{field_parts}
 pub equal : (xs ys : List ℕ) (r : Bool) → Decides r (xs ≡ ys) → r ≡ true → ys ≡ xs
 equal xs ys r d e = sym (d.0 e)
 
-pub unequal : (xs ys : List ℕ) (r : Bool) → Decides r (xs ≡ ys) → r ≡ false → ys ≡ xs → ⊥
+unequal : (xs ys : List ℕ) (r : Bool) → Decides r (xs ≡ ys) → r ≡ false → ys ≡ xs → ⊥
 unequal xs ys r d e same = let yes : r ≡ true = d.1 (sym same) in cc
+
+pub not_equal : (letters word bytes : List ℕ) (r : Bool) → Decides r (bytes ≡ word) → r ≡ false → word ≡ letters → letters ≡ bytes → ⊥
+not_equal letters word bytes r d e l same = unequal bytes word r d e (l ∙ same)
 
 bytes_same : (xs : List ℕ) → bytes_eq xs xs ≡ true
 bytes_same [] = refl
@@ -195,3 +198,23 @@ function_once (function.Setter f) (function.Setter g) h i e =
 function_once function.Body function.Body h i e = refl
 function_once (function.Initializer a) (function.Initializer b) h i e = ap function.Initializer cc
 function_once f g h i e = absurd (bytes_differ (function_name f) (function_name g) refl e)
+
+-- a name behind `PyInit_` is that of one function alone
+initializer_only : (f : FunctionName) (name : List ℕ) → IsFunctionName f → function_name f ≡ codes "PyInit_" ++ name → IsIdentifier name
+initializer_only (function.Initializer a) name h e = let same : a ≡ name = cc in subst IsIdentifier same h
+initializer_only f name h e = absurd (bytes_differ (function_name f) (codes "PyInit_" ++ name) refl e)
+
+pub initializer_some : {E : Type 0} (r : Result (Option FunctionName) E) (name bytes : List ℕ) → bytes ≡ codes "PyInit_" ++ name
+    → IfOk r (λ found. MatchOption found (¬ (IsIdentifier name)) (λ f. (f ≡ function.Initializer name) × IsIdentifier name))
+    → IfOk r (λ found. IfSome found (λ f. IsFunctionName f × (function_name f ≡ bytes)))
+initializer_some (Err x) name bytes e h = tt
+initializer_some (Ok None) name bytes e h = tt
+initializer_some (Ok (Some f)) name bytes e h = (subst IsFunctionName (sym h.0) h.1, ap function_name h.0 ∙ sym e)
+
+pub initializer_every : {E : Type 0} (r : Result (Option FunctionName) E) (name bytes : List ℕ) → bytes ≡ codes "PyInit_" ++ name
+    → IfOk r (λ found. MatchOption found (¬ (IsIdentifier name)) (λ f. (f ≡ function.Initializer name) × IsIdentifier name))
+    → IfOk r (λ found. (f : FunctionName) → IsFunctionName f → function_name f ≡ bytes → found ≡ Some f)
+initializer_every (Err x) name bytes e h = tt
+initializer_every (Ok None) name bytes e h = λ f form same. absurd (h (initializer_only f name form (same ∙ e)))
+initializer_every (Ok (Some g)) name bytes e h = λ f form same.
+    ap Some (function_once g f (subst IsFunctionName (sym h.0) h.1) form (ap function_name h.0 ∙ (sym e ∙ sym same)))

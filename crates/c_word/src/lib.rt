@@ -1,8 +1,10 @@
 //! What the words of C texts mean: numbers, and the names that the written C has.
 #![tactic(auto)]
 
+mod functions;
 mod names;
 mod numbers;
 
+pub use functions::function;
 pub use names::{exception, table, variable};
 pub use numbers::{lettered, number, numbered, of_field};
