@@ -1,3 +1,5 @@
+mod Callees
 mod Halves
-mod Parts
+mod KeywordRows
 mod Once
+mod Parts

@@ -1,7 +1,10 @@
 -- No two variables, places, tables, exceptions or functions in form have one name.
-use Rattle.std.proofs.Common.{◌≡◌, ℕ, ◌+◌, ◌^◌, ◌<◌, ◌≤◌, Bool, true, false, List, [], ◌∷◌, ◌++◌, Option, Some, None, Result, Ok, Err, length, get_or, refl, sym, ap, ◌∙◌, subst, append_assoc, arith, decimal}
+use Rattle.std.proofs.Common.{◌≡◌, ℕ, ◌+◌, ◌^◌, ◌<◌, ◌≤◌, Bool, true, false, not, ◌&&◌, List, [], ◌∷◌, ◌++◌, Option, Some, None, Result, Ok, Err, length, get_or, refl, sym, ap, ◌∙◌, subst, append_assoc, arith, decimal}
 use Rattle.std.specs.Prelude.{nat_eq, if◌then◌else◌, codes, IfOk, IfSome, MatchOption}
 use Rattle.std.specs.Bool.{Decides}
+use Rattle.std.specs.Char.{is_ascii_digit}
+use Rattle.std.specs.List.{AllByRecursion, list_all}
+use Rattle.c_state.specs.CTokens.{is_word_byte}
 use Rattle.std.specs.Str.{bytes_eq}
 use Rattle.std.proofs.lemmas.Bool.{eq-eqb, ne_eqb}
 use Rattle.std.proofs.lemmas.Fmt.{decimal_injective, decimal_nonempty}
@@ -20,7 +23,7 @@ use Rattle.c_tree.specs.declared.name.Variable.TheVariants as variable
 use Rattle.c_tree.specs.Names.{fixed_name, function_name, place_name, variable_name}
 use Rattle.c_tree.specs.Values.{exception_name}
 use Rattle.c_tree.specs.Forms.{IsFunctionName, IsFieldNumber, IsIdentifier, IsNumber, IsNumbered, IsPlace, IsVariable}
-use Rattle.c_word.specs.Numbers.{AreDigits, two_numbers}
+use Rattle.c_word.specs.Numbers.{AreDigits, is_identifier, two_numbers}
 use Rattle.c_word.proofs.Halves.{decimal_digits}
 use Rattle.c_word.proofs.Parts.{field_parts}
 
@@ -198,6 +201,33 @@ function_once (function.Setter f) (function.Setter g) h i e =
 function_once function.Body function.Body h i e = refl
 function_once (function.Initializer a) (function.Initializer b) h i e = ap function.Initializer cc
 function_once f g h i e = absurd (bytes_differ (function_name f) (function_name g) refl e)
+
+bytes_are : (xs : List ℕ) → list_all is_word_byte xs ≡ true → AllByRecursion (λ b. is_word_byte b ≡ true) xs
+bytes_are [] h = tt
+bytes_are (x ∷ xs) h = go (is_word_byte x) (list_all is_word_byte xs) refl refl h (bytes_are xs)
+  where
+    go : (a b : Bool) → is_word_byte x ≡ a → list_all is_word_byte xs ≡ b → (a && b) ≡ true → (list_all is_word_byte xs ≡ true → AllByRecursion (λ c. is_word_byte c ≡ true) xs)
+        → (is_word_byte x ≡ true) × AllByRecursion (λ c. is_word_byte c ≡ true) xs
+    go true true e f k more = (e, more f)
+    go true false e f k more = cc
+    go false b e f k more = cc
+
+bytes_test : (xs : List ℕ) → AllByRecursion (λ b. is_word_byte b ≡ true) xs → list_all is_word_byte xs ≡ true
+bytes_test [] h = refl
+bytes_test (x ∷ xs) h = rw h.0 (bytes_test xs h.1)
+
+pub identifier_is : (bytes : List ℕ) → is_identifier bytes ≡ true → IsIdentifier bytes
+identifier_is [] h = cc
+identifier_is (x ∷ xs) h = go (is_ascii_digit x) (list_all is_word_byte (x ∷ xs)) refl refl h
+  where
+    go : (a b : Bool) → is_ascii_digit x ≡ a → list_all is_word_byte (x ∷ xs) ≡ b → (not a && b) ≡ true → (is_ascii_digit x ≡ false) × AllByRecursion (λ c. is_word_byte c ≡ true) (x ∷ xs)
+    go false true e f k = (e, bytes_are (x ∷ xs) f)
+    go false false e f k = cc
+    go true b e f k = cc
+
+pub identifier_test : (bytes : List ℕ) → IsIdentifier bytes → is_identifier bytes ≡ true
+identifier_test [] h = absurd h
+identifier_test (x ∷ xs) h = ap (λ (t : Bool). not t && list_all is_word_byte (x ∷ xs)) h.0 ∙ bytes_test (x ∷ xs) h.1
 
 -- a name behind `PyInit_` is that of one function alone
 initializer_only : (f : FunctionName) (name : List ℕ) → IsFunctionName f → function_name f ≡ codes "PyInit_" ++ name → IsIdentifier name

@@ -3,13 +3,17 @@ ghost use Rattle.std.specs.Prelude.{◌≡◌, ◌≢◌, ◌++◌, ℕ, List, c
 ghost use Rattle.std.specs.List.{list_all};
 ghost use Rattle.c_state.specs.CTokens.{is_word_byte};
 ghost use Rattle.c_tree.specs.declared.name.FunctionName.{FunctionName as FunctionValue};
-ghost use Rattle.c_tree.specs.Forms.{IsFunctionName, IsIdentifier};
+ghost use Rattle.c_tree.specs.declared.statement.Callee.{Callee as CalleeValue};
+ghost use Rattle.c_tree.specs.Forms.{IsCallee, IsFunctionName, IsIdentifier};
 ghost use Rattle.c_tree.specs.Names.{function_name};
+ghost use Rattle.c_tree.specs.Statements.{callee_name};
+ghost use Rattle.c_word.specs.Keywords.{IsPlain};
 ghost use Rattle.c_word.specs.Numbers.{is_identifier};
 
+use crate::keywords::is_keyword;
 use crate::numbers::{behind, numbered, of_field};
 use c_state::Bytes;
-use c_tree::FunctionName;
+use c_tree::{Callee, FunctionName};
 use cy_base::OutOfMemory;
 use std::alloc::Global;
 
@@ -103,5 +107,29 @@ pub fn function(alloc: Global, bytes: &[u8]) -> Result<Option<FunctionName>, Out
     match behind(b"PyInit_", bytes) {
         Some(name) => initializer(alloc, name),
         None => Ok(compiled(bytes)),
+    }
+}
+
+// A name that is no keyword.
+fn plain(alloc: Global, bytes: &[u8]) -> Result<Option<Callee>, OutOfMemory>
+    ensures { IfOk result (λ found. MatchOption found (¬ (IsPlain bytes.now)) (λ f. (f ≡ Callee.Named bytes.now) × IsPlain bytes.now)) }
+{
+    if !is_identifier(bytes) {
+        return Ok(None);
+    }
+    if is_keyword(bytes) {
+        return Ok(None);
+    }
+    Ok(Some(Callee::Named(copied(alloc, bytes)?)))
+}
+
+/// What a call with this name names: a function of the compiler, or else any name that is no keyword.
+pub fn callee(alloc: Global, bytes: &[u8]) -> Result<Option<Callee>, OutOfMemory>
+    ensures some { IfOk result (λ found. IfSome found (λ f. IsCallee f × (callee_name f ≡ bytes.now))) }
+    ensures every { IfOk result (λ found. (f : CalleeValue) → IsCallee f → callee_name f ≡ bytes.now → found ≡ Some f) }
+{
+    match function(alloc, bytes)? {
+        Some(found) => Ok(Some(Callee::Function(found))),
+        None => plain(alloc, bytes),
     }
 }

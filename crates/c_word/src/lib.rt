@@ -2,9 +2,11 @@
 #![tactic(auto)]
 
 mod functions;
+mod keywords;
 mod names;
 mod numbers;
 
-pub use functions::function;
+pub use functions::{callee, function};
+pub use keywords::is_keyword;
 pub use names::{exception, table, variable};
 pub use numbers::{lettered, number, numbered, of_field};
