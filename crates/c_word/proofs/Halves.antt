@@ -42,9 +42,10 @@ pub marked_parts : (xs front back : List ℕ) (at : ℕ) → position is_mark xs
     → (take at xs ≡ front) × (take (length xs - (at + 1)) (drop (at + 1) xs) ≡ back)
 marked_parts xs front back at e h same =
     let place : position is_mark (front ++ 95 ∷ back) ≡ Some at = ap (position is_mark) same ∙ e in
-    let there : length front ≡ at = cc (marked front back h) in
-    (ap (λ n. take n xs) (sym there) ∙ (ap (take (length front)) (sym same) ∙ take-append_seam front (95 ∷ back)),
-    tail_whole xs (at + 1) ∙ (ap (λ n. drop (n + 1) xs) (sym there) ∙ (ap (drop (length front + 1)) (sym same) ∙ drop-append-add front (95 ∷ back) 1)))
+    let there : length front ≡ at = cc (marked front back h) in (
+      ap (λ n. take n xs) (sym there) ∙ (ap (take (length front)) (sym same) ∙ take-append_seam front (95 ∷ back)),
+      tail_whole xs (at + 1) ∙ (ap (λ n. drop (n + 1) xs) (sym there) ∙ (ap (drop (length front + 1)) (sym same) ∙ drop-append-add front (95 ∷ back) 1)),
+    )
 
 pub unmarked : (xs front back : List ℕ) → position is_mark xs ≡ None → AreDigits front → front ++ 95 ∷ back ≡ xs → ⊥
 unmarked xs front back e h same =

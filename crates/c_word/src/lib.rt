@@ -5,6 +5,8 @@ mod functions;
 mod keywords;
 mod names;
 mod numbers;
+#[cfg(test)]
+mod tests;
 
 pub use functions::{callee, function};
 pub use keywords::is_keyword;

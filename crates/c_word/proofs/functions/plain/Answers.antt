@@ -19,7 +19,7 @@ pub returns : goal.returns
 returns c =
     let yes : c.is_identifier.result ≡ true = search rules in
     let plain : IsPlain c.args.bytes.now = record {
-        identifier = identifier_is c.args.bytes.now (sym c.is_identifier.ensures ∙ yes);
-        word = sym c.is_keyword.ensures ∙ c.if-is_keyword.false
+      identifier = identifier_is c.args.bytes.now (sym c.is_identifier.ensures ∙ yes);
+      word = sym c.is_keyword.ensures ∙ c.if-is_keyword.false;
     } in
     (ap callee.Named c.in_ok-copied.ensures, plain)
