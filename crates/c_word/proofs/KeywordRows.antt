@@ -2,7 +2,7 @@
 use Rattle.std.proofs.Common.{◌≡◌, ℕ, Bool, true, false, ◌||◌, List, [], ◌∷◌, ◌++◌, refl, sym, ap, ◌∙◌}
 use Rattle.std.specs.List.{list_any}
 use Rattle.std.specs.Str.{bytes_eq}
-use Rattle.c_tree.specs.Forms.{keywords, is_keyword}
+use Rattle.c_tree.specs.Forms.{is_keyword}
 use Rattle.c_word.specs.Keywords.{first_row, second_row, third_row, fourth_row, fifth_row, sixth_row}
 
 or_assoc : (a b c : Bool) → (a || b) || c ≡ a || (b || c)

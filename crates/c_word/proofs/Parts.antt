@@ -1,5 +1,5 @@
 -- Numbers that stand in one word.
-use Rattle.std.proofs.Common.{◌≡◌, ℕ, List, [], ◌∷◌, ◌++◌, Option, Some, ap, sym, ◌∙◌, append_assoc, decimal}
+use Rattle.std.proofs.Common.{◌≡◌, ℕ, List, ◌∷◌, ◌++◌, Some, ap, sym, ◌∙◌, append_assoc, decimal}
 use Rattle.std.proofs.lemmas.List.{append_cancel_left}
 use Rattle.c_tree.specs.declared.name.Numbered.{Numbered}
 use Rattle.c_tree.specs.declared.name.FieldNumber.{FieldNumber}

@@ -1,4 +1,4 @@
-use Rattle.std.proofs.Common.{◌≡◌, true, false, refl, sym, ◌∙◌}
+use Rattle.std.proofs.Common.{true, false, refl, sym, ◌∙◌}
 use Rattle.c_word.proofs.KeywordRows.{keyword_rows}
 use Rattle.c_word.proofs.keywords.is_keyword.Goals as goal
 

@@ -1,4 +1,4 @@
-use Rattle.std.proofs.Common.{◌≡◌, sym, ◌∙◌}
+use Rattle.std.proofs.Common.{sym, ◌∙◌}
 use Rattle.c_word.proofs.Halves.{cut_at, marked_parts, unmarked}
 use Rattle.c_word.proofs.numbers.halves.Goals as goal
 

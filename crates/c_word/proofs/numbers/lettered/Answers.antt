@@ -1,4 +1,4 @@
-use Rattle.std.proofs.Common.{◌≡◌, sym, ◌∙◌, decimal}
+use Rattle.std.proofs.Common.{◌∙◌, decimal}
 use Rattle.std.proofs.lemmas.List.{append_cancel_left}
 use Rattle.c_word.proofs.numbers.lettered.Goals as goal
 

@@ -1,4 +1,4 @@
-use Rattle.std.proofs.Common.{◌≡◌, ◌∙◌, sym, decimal, arith}
+use Rattle.std.proofs.Common.{◌∙◌, sym, decimal, arith}
 use Rattle.c_word.specs.Numbers.{two_numbers}
 use Rattle.c_word.proofs.Halves.{decimal_digits}
 use Rattle.c_word.proofs.Parts.{field_parts, field_same}

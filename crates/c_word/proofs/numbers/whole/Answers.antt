@@ -1,4 +1,4 @@
-use Rattle.std.proofs.Common.{◌≡◌, ◌<◌, ◌^◌, ℕ, Some, Ok, true, decimal, ap, sym, ◌∙◌, subst}
+use Rattle.std.proofs.Common.{◌≡◌, Some, true, decimal, ap, sym, ◌∙◌, subst}
 use Rattle.std.proofs.lemmas.Bool.Decides.{Decides-eqb}
 use Rattle.std.proofs.lemmas.Fmt.{parse-decimal, IsAscii-decimal}
 use Rattle.std.proofs.lemmas.Slice.Eq.{slice_eq-Decides}
