@@ -1,4 +1,6 @@
-use crate::{CResult, CStmt, CType, FieldNumber, FunctionName, Numbered, Place, TableName, Variable};
+use crate::{
+    CResult, CStmt, CType, FieldNumber, FunctionName, Numbered, Place, TableName, Variable,
+};
 use c_state::Bytes;
 use sqlite_items::Items;
 

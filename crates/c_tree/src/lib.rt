@@ -12,5 +12,7 @@ pub use item::{
     PropertyRow, Slot, StructTable, TableBase, TypeObject,
 };
 pub use name::{FieldNumber, FixedParameter, FunctionName, Numbered, Place, TableName, Variable};
-pub use statement::{Argument, BinaryOp, CStmt, CTest, Callee, Extent, FieldPlace, ViewNumber, ViewPlace};
+pub use statement::{
+    Argument, BinaryOp, CStmt, CTest, Callee, Extent, FieldPlace, ViewNumber, ViewPlace,
+};
 pub use value::{CResult, CType, CValue, Literal};
