@@ -18,7 +18,8 @@ use Rattle.c_state.specs.declared.tree.MethodRow.{MethodRow}
 use Rattle.c_state.specs.declared.state.Spot.{Spot}
 use Rattle.c_state.specs.State.{spots_at}
 use Rattle.c_look.specs.declared.parts.Wanted.TheVariants as wanted
-use Rattle.c_look.specs.Lookups.{label_from, label_line, is_wanted, standing_from, or_else, standing_among, standing_named, wrapper_standing, standing_next, row_standing, standing_in, standing_entered}
+use Rattle.c_look.specs.Lookups.{is_wanted, standing_from, or_else, standing_among, standing_named, wrapper_standing, standing_next, row_standing, standing_in, standing_entered}
+use Rattle.c_tables.specs.Lines.{label_from, label_line}
 
 pub rest_after : {A : Type 0} → (xs : List A) (x : A) (ys : List A) (i : ℕ) → drop i xs ≡ x ∷ ys → drop (suc i) xs ≡ ys
 rest_after [] x ys zero e = cc

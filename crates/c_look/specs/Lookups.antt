@@ -1,12 +1,9 @@
 -- Where labels and functions stand.
-use Rattle.std.specs.Prelude.{ℕ, suc, Bool, List, [], ◌∷◌, Option, Some, None, nat_eq, drop, if◌then◌else◌}
+use Rattle.std.specs.Prelude.{ℕ, suc, Bool, List, [], ◌∷◌, Option, Some, None, drop, if◌then◌else◌}
 use Rattle.c_state.specs.declared.space.Callee.{Callee}
 use Rattle.c_state.specs.declared.space.Callee.TheVariants as callee
 use Rattle.c_state.specs.declared.tree.FunctionName.{FunctionName}
 use Rattle.c_state.specs.declared.tree.FunctionName.TheVariants as function
-use Rattle.c_state.specs.declared.tree.CStmt.{CStmt}
-use Rattle.c_state.specs.declared.tree.Line.{Line}
-use Rattle.c_state.specs.declared.tree.Line.TheVariants as line
 use Rattle.c_state.specs.declared.tree.CHead.{CHead}
 use Rattle.c_state.specs.declared.tree.CItem.{CItem}
 use Rattle.c_state.specs.declared.tree.CItem.TheVariants as item
@@ -18,25 +15,6 @@ use Rattle.c_state.specs.Reads.{items_at, is_plain, is_wrapper, is_initializer, 
 use Rattle.c_look.specs.declared.parts.Standing.{Standing}
 use Rattle.c_look.specs.declared.parts.Wanted.{Wanted}
 use Rattle.c_look.specs.declared.parts.Wanted.TheVariants as wanted
-
--- the number of the line after a label, where the lines are numbered from i on
-abbrev pub label_from : ℕ → List Line → ℕ → Option ℕ
-label_from i [] l = None
-label_from i (line.Label k ∷ ls) l = if nat_eq k l then Some (suc i) else label_from (suc i) ls l
-label_from i (line.Statement s ∷ ls) l = label_from (suc i) ls l
-
-abbrev pub label_line : List Line → ℕ → Option ℕ
-label_line ls l = label_from 0 ls l
-
--- the first statement, and the lines after it
-pub data Next : Type 0 where
-  Lines : CStmt → List Line → Next
-  NoLine : Next
-
-abbrev pub next_line : List Line → Next
-next_line [] = NoLine
-next_line (line.Label l ∷ ls) = next_line ls
-next_line (line.Statement s ∷ ls) = Lines s ls
 
 -- the test of a head
 abbrev pub is_wanted : Wanted → CHead → Bool

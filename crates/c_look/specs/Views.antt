@@ -10,6 +10,8 @@ use Rattle.c_state.specs.declared.state.Entered.{Entered}
 use Rattle.c_state.specs.declared.state.Value.{Value}
 use Rattle.c_state.specs.declared.state.Doing.TheVariants as doing
 use Rattle.c_state.specs.State.{Frame}
+use Rattle.c_state.specs.declared.tree.Line.{Line}
+use Rattle.c_tables.specs.Lines.{lines_of}
 use Rattle.c_state.specs.Reads.{items_at, Found, FoundFunction, NotFound, declared_cell, parameter_cells}
 use Rattle.c_look.specs.declared.parts.Standing.{Standing}
 use Rattle.c_look.specs.declared.parts.Activation.{Activation}
@@ -28,6 +30,11 @@ no_function = record { head = head.Initializer []; declarations = []; lines = []
 
 abbrev pub function_at : List CFile → ℕ → ℕ → CFunction
 function_at files k i = unwrap_or (function_there files k i) no_function
+
+-- the lines of an item that is there
+abbrev pub lines_in : Option CItem → List Line
+lines_in None = []
+lines_in (Some i) = lines_of i
 
 -- the function that stands there
 abbrev pub found_with : ℕ → Option CFunction → Found

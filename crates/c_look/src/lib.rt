@@ -3,7 +3,6 @@
 
 pub mod copies;
 pub mod lookups;
-pub mod objects;
 pub mod operands;
 pub mod parts;
 pub mod readings;

@@ -1,32 +1,19 @@
 //! Where labels, statements and functions stand.
-ghost use Rattle.std.specs.Prelude.{◌≡◌, Some, MatchOption, drop};
+ghost use Rattle.std.specs.Prelude.{◌≡◌, Some, MatchOption, drop, slice_get};
 ghost use Rattle.std.specs.Option.{option_copied};
 ghost use Rattle.c_state.specs.State.{spots_at};
 ghost use Rattle.c_state.specs.Reads.{items_at, holds_one, spot_holds_one, is_ready, method_row, method_in, is_named, module_from};
-ghost use Rattle.c_look.specs.Views.{as_function, function_there};
-ghost use Rattle.c_look.specs.Lookups.{label_line, Lines, NoLine, next_line, is_wanted, standing_from, standing_among, wrapper_standing, standing_named, row_standing, standing_in, standing_entered, standing_next};
+ghost use Rattle.c_look.specs.Views.{as_function, function_there, function_at, lines_in};
+ghost use Rattle.c_tables.specs.Lines.{label_line, Lines, NoLine, next_line};
+ghost use Rattle.c_look.specs.Lookups.{is_wanted, standing_from, standing_among, wrapper_standing, standing_named, row_standing, standing_in, standing_entered, standing_next};
 
 use crate::operands::{find_module, find_spot};
-use crate::parts::{Standing, Wanted};
+use crate::parts::{LinkedFile, Standing, Wanted};
 use c_state::{
-    Bytes, CFile, CFunction, CHead, CItem, CStmt, Callee, FunctionName, Line, MethodRow, Place,
-    Spot, Value,
+    Bytes, CFunction, CHead, CItem, Callee, FunctionName, MethodRow, Place, Spot, Value,
 };
-use sqlite_items::Items;
-
-/// The number of the line after a label.
-pub fn find_label(lines: &[Line], label: u32) -> Option<usize>
-    ensures { result ≡ label_line lines.now label }
-{
-    for (i, line) in lines.iter().enumerate() {
-        if let Line::Label(k) = line {
-            if *k == label {
-                return Some(i + 1);
-            }
-        }
-    }
-    None
-}
+use c_tables::{Following, LinkedItem};
+use sqlite_items::{Items, at};
 
 fn is_wanted(wanted: Wanted, head: &CHead) -> bool
     ensures { result ≡ is_wanted wanted head.now }
@@ -40,11 +27,11 @@ fn is_wanted(wanted: Wanted, head: &CHead) -> bool
 }
 
 /// The first function of a file with a head.
-fn find_in(file: usize, wanted: Wanted, items: &[CItem]) -> Option<Standing>
+fn find_in(file: usize, wanted: Wanted, items: &[LinkedItem]) -> Option<Standing>
     ensures { result ≡ standing_from file 0 wanted items.now }
 {
     for (item, it) in items.iter().enumerate() {
-        if let CItem::Function(function) = it {
+        if let CItem::Function(function) = it.item() {
             if is_wanted(wanted, &function.head) {
                 return Some(Standing { file, item });
             }
@@ -54,21 +41,21 @@ fn find_in(file: usize, wanted: Wanted, items: &[CItem]) -> Option<Standing>
 }
 
 /// The items of a file, by its number.
-pub fn items_at(files: &[CFile], file: usize) -> &[CItem]
+pub fn items_at(files: &[LinkedFile], file: usize) -> &[LinkedItem]
     ensures { result.now ≡ items_at files.now file }
 {
     match files.get(file) {
-        Some(file) => file.items.as_slice(),
+        Some(file) => file.items(),
         None => &[],
     }
 }
 
 /// The first of all files from a number on.
-fn find_among(files: &[CFile], from: usize, wanted: Wanted) -> Option<Standing>
+fn find_among(files: &[LinkedFile], from: usize, wanted: Wanted) -> Option<Standing>
     ensures { result ≡ standing_among from wanted (drop from files.now) }
 {
     for file in from..files.len() {
-        let found = find_in(file, wanted, files[file].items.as_slice());
+        let found = find_in(file, wanted, files[file].items());
         if found.is_some() {
             return found;
         }
@@ -76,14 +63,14 @@ fn find_among(files: &[CFile], from: usize, wanted: Wanted) -> Option<Standing>
     None
 }
 
-fn find_wrapper(files: &[CFile], file: usize, module: u32, index: u32) -> Option<Standing>
+fn find_wrapper(files: &[LinkedFile], file: usize, module: u32, index: u32) -> Option<Standing>
     ensures { result ≡ wrapper_standing files.now file «module» index }
 {
     find_in(file, Wanted::Wrapper(module, index), items_at(files, file))
 }
 
 /// The function that C in a file names.
-pub fn find_function(files: &[CFile], file: usize, name: &FunctionName) -> Option<Standing>
+pub fn find_function(files: &[LinkedFile], file: usize, name: &FunctionName) -> Option<Standing>
     ensures { result ≡ standing_named files.now file name.now }
 {
     match name {
@@ -94,26 +81,35 @@ pub fn find_function(files: &[CFile], file: usize, name: &FunctionName) -> Optio
 }
 
 /// The next initialisation.
-pub fn find_initializer(files: &[CFile], begun: usize) -> Option<Standing>
+pub fn find_initializer(files: &[LinkedFile], begun: usize) -> Option<Standing>
     ensures { result ≡ standing_next files.now begun }
 {
     find_among(files, begun, Wanted::Initializer)
 }
 
-fn as_function(item: Option<&CItem>) -> Option<&CFunction>
-    ensures { option_copied result ≡ as_function (option_copied item.entry) }
+fn function_in(item: &CItem) -> Option<&CFunction>
+    ensures { option_copied result ≡ as_function (Some item.now) }
 {
     match item {
-        Some(CItem::Function(function)) => Some(function),
+        CItem::Function(function) => Some(function),
         _ => None,
     }
 }
 
+fn as_function(item: Option<&LinkedItem>) -> Option<&CFunction>
+    ensures { option_copied result ≡ as_function (option_copied item.entry) }
+{
+    match item {
+        None => None,
+        Some(item) => function_in(item.item()),
+    }
+}
+
 /// The function that stands there.
-pub fn function_there(files: &[CFile], file: usize, item: usize) -> Option<&CFunction>
+pub fn function_there(files: &[LinkedFile], file: usize, item: usize) -> Option<&CFunction>
     ensures { option_copied result ≡ function_there files.now file item }
 {
-    as_function(items_at(files, file).get(item))
+    as_function(item_at(files, file, item))
 }
 
 fn holds_one(value: &Value) -> bool
@@ -161,11 +157,11 @@ fn find_row<'a>(rows: &'a [MethodRow], name: &[u8]) -> Option<&'a MethodRow>
     None
 }
 
-fn find_method<'a>(items: &'a [CItem], name: &[u8]) -> Option<&'a MethodRow>
+fn find_method<'a>(items: &'a [LinkedItem], name: &[u8]) -> Option<&'a MethodRow>
     ensures { option_copied result ≡ method_in items.now name.now }
 {
     for item in items {
-        if let CItem::Methods(rows) = item {
+        if let CItem::Methods(rows) = item.item() {
             return find_row(rows.as_slice(), name);
         }
     }
@@ -182,18 +178,18 @@ fn is_named(name: Option<&Bytes>, wanted: &[u8]) -> bool
 }
 
 /// The first file that defines the module.
-fn find_file(files: &[CFile], module: &[u8]) -> Option<usize>
+fn find_file(files: &[LinkedFile], module: &[u8]) -> Option<usize>
     ensures { result ≡ module_from 0 files.now «module».now }
 {
     for (k, file) in files.iter().enumerate() {
-        if is_named(find_module(file.items.as_slice()), module) {
+        if is_named(find_module(file.items()), module) {
             return Some(k);
         }
     }
     None
 }
 
-fn find_row_function(files: &[CFile], file: usize, row: Option<&MethodRow>) -> Option<Standing>
+fn find_row_function(files: &[LinkedFile], file: usize, row: Option<&MethodRow>) -> Option<Standing>
     ensures { result ≡ row_standing files.now file (option_copied row.entry) }
 {
     match row {
@@ -203,7 +199,7 @@ fn find_row_function(files: &[CFile], file: usize, row: Option<&MethodRow>) -> O
 }
 
 fn find_in_module(
-    files: &[CFile],
+    files: &[LinkedFile],
     places: &[Items<Spot>],
     name: &[u8],
     file: Option<usize>,
@@ -222,7 +218,11 @@ fn find_in_module(
 }
 
 /// The function that an entry enters, where it fits.
-pub fn find_entered(files: &[CFile], places: &[Items<Spot>], callee: &Callee) -> Option<Standing>
+pub fn find_entered(
+    files: &[LinkedFile],
+    places: &[Items<Spot>],
+    callee: &Callee,
+) -> Option<Standing>
     ensures { result ≡ standing_entered files.now places.now callee.now }
 {
     match callee {
@@ -234,25 +234,50 @@ pub fn find_entered(files: &[CFile], places: &[Items<Spot>], callee: &Callee) ->
     }
 }
 
-/// What the next line is in a body: its statement, and the number of the line after it.
-#[derive(Clone, Copy)]
-pub struct Following<'a> {
-    pub statement: &'a CStmt,
-    pub after: usize,
+/// The item of a file, by their numbers.
+fn item_at(files: &[LinkedFile], file: usize, item: usize) -> Option<&LinkedItem>
+    ensures { option_copied result ≡ slice_get (items_at files.now file) item }
+{
+    at(items_at(files, file), item)
 }
 
-/// The first statement from a line on.
-pub fn find_statement(lines: &[Line], from: usize) -> Option<Following<'_>>
-    ensures { MatchOption result (next_line (drop from lines.now) ≡ NoLine)
-        (λ next. next_line (drop from lines.now) ≡ Lines next.statement.now (drop next.after lines.now)) }
+fn label_in(item: Option<&LinkedItem>, label: u32) -> Option<usize>
+    ensures { result ≡ label_line (lines_in (option_copied item.entry)) label }
 {
-    for i in from..lines.len() {
-        if let Line::Statement(statement) = &lines[i] {
-            return Some(Following {
-                statement,
-                after: i + 1,
-            });
-        }
+    match item {
+        None => None,
+        Some(item) => item.label(label),
     }
-    None
+}
+
+/// The number of the line after a label in a function.
+#[tactic(auto, using(crate::proofs::Bodies::lines))]
+pub fn find_label(files: &[LinkedFile], file: usize, item: usize, label: u32) -> Option<usize>
+    ensures { result ≡ label_line (function_at files.now file item).lines label }
+{
+    label_in(item_at(files, file, item), label)
+}
+
+fn statement_in(item: Option<&LinkedItem>, from: usize) -> Option<Following<'_>>
+    ensures { MatchOption result (next_line (drop from (lines_in (option_copied item.entry))) ≡ NoLine)
+        (λ next. next_line (drop from (lines_in (option_copied item.entry))) ≡ Lines next.statement.now (drop next.after (lines_in (option_copied item.entry)))) }
+{
+    match item {
+        None => None,
+        Some(item) => item.statement(from),
+    }
+}
+
+/// The first statement of a function from a line on.
+#[tactic(auto, using(crate::proofs::Bodies::lines))]
+pub fn find_statement(
+    files: &[LinkedFile],
+    file: usize,
+    item: usize,
+    from: usize,
+) -> Option<Following<'_>>
+    ensures { MatchOption result (next_line (drop from (function_at files.now file item).lines) ≡ NoLine)
+        (λ next. next_line (drop from (function_at files.now file item).lines) ≡ Lines next.statement.now (drop next.after (function_at files.now file item).lines)) }
+{
+    statement_in(item_at(files, file, item), from)
 }

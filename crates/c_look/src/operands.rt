@@ -1,33 +1,18 @@
 //! What operands read.
 ghost use Rattle.std.specs.Prelude.{◌≡◌, pos, IfOk};
 ghost use Rattle.std.specs.Option.{option_copied};
-ghost use Rattle.c_state.specs.State.{same_variable, same_place, lookup, spot, wrap_int};
+ghost use Rattle.c_state.specs.State.{same_place, spot, wrap_int};
 ghost use Rattle.c_state.specs.Reads.{cell_reading, spot_reading, argument_of, argument_at, definition_reading, module_name};
 ghost use Rattle.c_look.specs.Readings.{operand_in, operands_in};
 
 use crate::copies::{copy_bytes, copy_obj, copy_value};
-use crate::readings::wrap_int;
 use c_state::{Bytes, CItem, CValue, Cell, Kind, Obj, Place, Reading, Spot, Value, Variable};
+use c_tables::{Cells, LinkedItem, wrap_int};
 use cy_base::OutOfMemory;
 use sqlite_items::Items;
 use std::alloc::Global;
 
 type Read = Result<Option<Reading>, OutOfMemory>;
-
-pub fn same_variable(x: Variable, y: Variable) -> bool
-    ensures { result ≡ same_variable x y }
-{
-    match (x, y) {
-        (Variable::Parameter(i), Variable::Parameter(j)) => i == j,
-        (Variable::Local(i), Variable::Local(j)) => i == j,
-        (Variable::Temporary(i), Variable::Temporary(j)) => i == j,
-        (Variable::Returned, Variable::Returned) => true,
-        (Variable::SelfObject, Variable::SelfObject) => true,
-        (Variable::Arguments, Variable::Arguments) => true,
-        (Variable::ArgumentCount, Variable::ArgumentCount) => true,
-        _ => false,
-    }
-}
 
 pub fn same_place(x: Place, y: Place) -> bool
     ensures { result ≡ same_place x y }
@@ -43,18 +28,6 @@ pub fn same_place(x: Place, y: Place) -> bool
     }
 }
 
-/// The first cell of that name.
-pub fn find_cell(cells: &[Cell], x: Variable) -> Option<&Cell>
-    ensures { option_copied result ≡ lookup cells.now x }
-{
-    for cell in cells {
-        if same_variable(cell.variable, x) {
-            return Some(cell);
-        }
-    }
-    None
-}
-
 pub fn find_spot(spots: &[Spot], place: Place) -> Option<&Spot>
     ensures { option_copied result ≡ spot spots.now place }
 {
@@ -66,11 +39,11 @@ pub fn find_spot(spots: &[Spot], place: Place) -> Option<&Spot>
     None
 }
 
-pub fn find_module(items: &[CItem]) -> Option<&Bytes>
+pub fn find_module(items: &[LinkedItem]) -> Option<&Bytes>
     ensures { option_copied result ≡ module_name items.now }
 {
     for item in items {
-        if let CItem::ModuleDefinition(name) = item {
+        if let CItem::ModuleDefinition(name) = item.item() {
             return Some(name);
         }
     }
@@ -171,13 +144,19 @@ fn text_reading(alloc: Global, text: &Bytes) -> Result<Reading, OutOfMemory>
 }
 
 /// What an operand gives, with its type; None where it names what isn't there.
-pub fn operand(alloc: Global, items: &[CItem], spots: &[Spot], cells: &[Cell], k: &CValue) -> Read
+pub fn operand(
+    alloc: Global,
+    items: &[LinkedItem],
+    spots: &[Spot],
+    cells: &Cells,
+    k: &CValue,
+) -> Read
     ensures { IfOk result (λ r. r ≡ operand_in items.now spots.now cells.now k.now) }
 {
     match k {
-        CValue::Variable(x) => cell_reading(alloc, find_cell(cells, *x)),
+        CValue::Variable(x) => cell_reading(alloc, cells.find(*x)),
         CValue::Place(place) => spot_reading(alloc, find_spot(spots, *place)),
-        CValue::Argument(j) => argument_at(alloc, find_cell(cells, Variable::Arguments), *j),
+        CValue::Argument(j) => argument_at(alloc, cells.find(Variable::Arguments), *j),
         CValue::Int(n) => Ok(Some(int_reading(*n))),
         CValue::Str(text) => Ok(Some(text_reading(alloc, text)?)),
         CValue::Null => Ok(Some(Reading {
@@ -195,9 +174,9 @@ pub fn operand(alloc: Global, items: &[CItem], spots: &[Spot], cells: &[Cell], k
 /// What operands give, with their types; None where one names what isn't there.
 pub fn operands(
     alloc: Global,
-    items: &[CItem],
+    items: &[LinkedItem],
     spots: &[Spot],
-    cells: &[Cell],
+    cells: &Cells,
     ks: &[CValue],
 ) -> Result<Option<Items<Reading>>, OutOfMemory>
     ensures { IfOk result (λ r. r ≡ operands_in items.now spots.now cells.now ks.now) }

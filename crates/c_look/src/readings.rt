@@ -1,16 +1,16 @@
 //! Tests over readings: types, values that are set, loans, and what is held.
 ghost use Rattle.std.specs.Prelude.{◌≡◌, [], IfOk};
 ghost use Rattle.std.specs.Option.{option_copied};
-ghost use Rattle.c_state.specs.State.{wrap_int, low_half, high_half, as_int, converted, is_number, is_object, is_arguments, converts, kind_of, is_constant, is_module_variable, value_is, among_spots, among_places};
+ghost use Rattle.c_state.specs.State.{is_number, is_object, is_arguments, converts, kind_of, is_constant, is_module_variable, value_is, among_spots, among_places};
 ghost use Rattle.c_state.specs.Reads.{reads_module_variable, object_in, lends, is_set, all_set, is_null, any_null, passed_with, passed, fits, accepts, receives};
 ghost use Rattle.c_state.specs.Statements.{may_store, comparable, same_int, same_value, by_comparison, owns_just, owns_none, same_lock};
 ghost use Rattle.c_look.specs.Readings.{may_read_with, may_write_with, held_in, all_held_in};
 
 use crate::copies::{copy_obj, copy_objs, with_first};
-use crate::objects::{has, is_permanent, same_obj};
-use crate::operands::find_cell;
 use crate::parts::Activation;
+use c_ledger::{has, is_permanent, same_obj};
 use c_state::{CType, CValue, Cell, Comparison, Kind, Obj, Place, Reading, Spot, Value, Variable};
+use c_tables::Cells;
 use cy_base::OutOfMemory;
 use sqlite_items::Items;
 use std::alloc::Global;
@@ -175,12 +175,12 @@ fn accepts(cell: Option<&Cell>, kind: Kind) -> bool
 }
 
 /// Whether a result of a type can go to a variable, where it goes to one.
-pub fn receives(cells: &[Cell], x: Option<Variable>, kind: Kind) -> bool
+pub fn receives(cells: &Cells, x: Option<Variable>, kind: Kind) -> bool
     ensures { result ≡ receives cells.now x kind }
 {
     match x {
         None => true,
-        Some(x) => accepts(find_cell(cells, x), kind),
+        Some(x) => accepts(cells.find(x), kind),
     }
 }
 
@@ -289,56 +289,6 @@ pub fn same_lock(lock: bool, other: bool) -> bool
     ensures { result ≡ same_lock lock other }
 {
     lock == other
-}
-
-fn low_half(m: u32) -> i128
-    ensures { result ≡ low_half m }
-{
-    if m < 2_147_483_648 {
-        i128::from(m)
-    } else {
-        i128::from(m) - 4_294_967_296
-    }
-}
-
-fn high_half(m: u32) -> i128
-    ensures { result ≡ high_half m }
-{
-    if m < 2_147_483_648 {
-        -1 - i128::from(m)
-    } else {
-        i128::from(4_294_967_295 - m)
-    }
-}
-
-/// The value of `int` that differs by a multiple of 2^32 (ISO/IEC 9899:2011 6.3.1.3, as gcc and clang define it).
-pub fn wrap_int(number: i128) -> i128
-    ensures { result ≡ wrap_int number }
-{
-    if 0 <= number {
-        low_half((number as u128 % 4_294_967_296) as u32)
-    } else {
-        high_half(((-1 - number) as u128 % 4_294_967_296) as u32)
-    }
-}
-
-/// A value that meets a place of a type.
-pub fn converted(kind: Kind, value: Value) -> Value
-    ensures { result ≡ converted kind value }
-{
-    match kind {
-        Kind::Int => as_int(value),
-        _ => value,
-    }
-}
-
-fn as_int(value: Value) -> Value
-    ensures { result ≡ as_int value }
-{
-    match value {
-        Value::Number(number) => Value::Number(wrap_int(number)),
-        other => other,
-    }
 }
 
 fn passed_with(alloc: Global, value: &Value) -> Result<Items<Obj>, OutOfMemory>

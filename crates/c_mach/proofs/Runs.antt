@@ -4,7 +4,7 @@ use Rattle.c_state.specs.declared.space.Entry.{Entry}
 use Rattle.c_state.specs.declared.space.Event.{Event}
 use Rattle.c_state.specs.declared.state.Step.{Step}
 use Rattle.c_state.specs.declared.state.Step.TheVariants as step
-use Rattle.c_mach.specs.Applied.{Parts, Fixed, seen}
+use Rattle.c_apply.specs.Applied.{Parts, Fixed, seen}
 use Rattle.c_mach.specs.Deciding.{IsStep}
 use Rattle.c_mach.specs.Runs.{Run, IsStepOf, IsKept}
 use Rattle.c_mach.specs.Held.{run_from}

@@ -25,23 +25,24 @@ use Rattle.c_look.specs.declared.parts.Standing.{Standing}
 use Rattle.c_look.specs.declared.parts.Activation.{Activation}
 use Rattle.c_plan.specs.declared.effects.Effect.{Effect}
 use Rattle.c_plan.specs.declared.effects.Effect.TheVariants as effect
-use Rattle.c_mach.specs.declared.parts.Turn.{Turn}
-use Rattle.c_mach.specs.declared.parts.Turn.TheVariants as turn
+use Rattle.c_turn.specs.declared.parts.Turn.{Turn}
+use Rattle.c_turn.specs.declared.parts.Turn.TheVariants as turn
 use Rattle.c_look.specs.Views.{function_at, function_there, found_at, found_with, frame_view, frames_view}
-use Rattle.c_look.specs.Lookups.{Next, Lines, NoLine, next_line, standing_entered, standing_next}
+use Rattle.c_look.specs.Lookups.{standing_entered, standing_next}
+use Rattle.c_tables.specs.Lines.{Next, Lines, NoLine, next_line}
 use Rattle.c_plan.specs.Plans.{Scene, plan}
 use Rattle.c_plan.specs.Effects.{effected}
-use Rattle.c_mach.specs.Turned.{turned}
-use Rattle.c_mach.specs.Turns.{Stage, Go, is_found, fitting, enter_else, enter_or, top_turn, begin_there, begin_at, idle_go, effect_go}
-use Rattle.c_mach.specs.Applied.{Parts, Fixed, applied, effect_events, moved_on, turn_events, last_of, seen}
+use Rattle.c_turn.specs.Turned.{turned}
+use Rattle.c_turn.specs.Turns.{Stage, Go, is_found, fitting, enter_else, enter_or, top_turn, begin_there, begin_at, idle_go, effect_go}
+use Rattle.c_apply.specs.Applied.{Parts, Fixed, applied, effect_events, moved_on, turn_events, last_of, seen, NoFault}
 use Rattle.c_plan.specs.Running.{next_effect, lines_after, next_here, doing_effect, effect_here}
-use Rattle.c_mach.specs.Deciding.{scene_at, stage_at, rests, is_resting, NoFault, finished, finished_events, started, Starts, IsDecided, IsFirst, Ends, IsStep}
+use Rattle.c_mach.specs.Deciding.{scene_at, stage_at, rests, is_resting, finished, finished_events, started, Starts, IsDecided, IsFirst, Ends, IsStep}
 use Rattle.c_plan.proofs.Planned.{IsBelow, planned}
-use Rattle.c_mach.proofs.Settled.{calm, idle-settled, failed-settled, effect-settled, runs-calm}
-use Rattle.c_mach.proofs.Calm.{settled_calm}
-use Rattle.c_mach.proofs.Seen.{view-above, last-split, last-none, effect-seen}
-use Rattle.c_mach.proofs.Puts.{last_of-snoc}
-use Rattle.c_mach.proofs.Stepped.{turn-seen, plan-hands, is-done, NoHand}
+use Rattle.c_turn.proofs.Settled.{calm, idle-settled, failed-settled, effect-settled, runs-calm}
+use Rattle.c_turn.proofs.Calm.{settled_calm}
+use Rattle.c_apply.proofs.Seen.{view-above, last-split, last-none, effect-seen}
+use Rattle.c_apply.proofs.Puts.{last_of-snoc}
+use Rattle.c_apply.proofs.Stepped.{turn-seen, plan-hands, is-done, NoHand}
 
 -- the frame below is that of the caller
 below-is : (files : List CFile) (xs : List Activation) (o : Option Activation) → last_of xs ≡ o → IsBelow files o (frames_view files xs)

@@ -13,10 +13,10 @@ use Rattle.c_plan.specs.declared.effects.Effect.{Effect}
 use Rattle.c_plan.specs.declared.effects.Effect.TheVariants as effect
 use Rattle.c_plan.specs.Plans.{Scene}
 use Rattle.c_plan.specs.Running.{lines_after, next_here, effect_here}
-use Rattle.c_mach.specs.Applied.{Parts, Fixed, applied, effect_events, moved_on, turn_events, last_of, seen}
-use Rattle.c_mach.specs.Turns.{Stage, idle_go, effect_go}
-use Rattle.c_mach.specs.declared.parts.Turn.{Turn}
-use Rattle.c_mach.specs.declared.parts.Turn.TheVariants as turn
+use Rattle.c_apply.specs.Applied.{Parts, Fixed, applied, effect_events, moved_on, turn_events, last_of, seen}
+use Rattle.c_turn.specs.Turns.{Stage, idle_go, effect_go}
+use Rattle.c_turn.specs.declared.parts.Turn.{Turn}
+use Rattle.c_turn.specs.declared.parts.Turn.TheVariants as turn
 use Rattle.c_look.specs.Views.{function_at}
 
 abbrev pub scene_at : Fixed → Parts → Activation → Scene
@@ -74,10 +74,6 @@ rests (Some a) = not (is_asking a.doing)
 abbrev pub is_resting : Course → Option Activation → Bool
 is_resting course.Goes newest = rests newest
 is_resting _ newest = true
-
-abbrev pub NoFault : Effect → Type 0
-NoFault (effect.Fault k) = ⊥
-NoFault _ = Unit {0}
 
 -- what a step comes to: where memory is wanting, or it faults, nothing is changed
 abbrev pub step_of : Fixed → Parts → List Entry → List Event → Stepped

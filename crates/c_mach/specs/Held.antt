@@ -1,7 +1,7 @@
 -- What the machine's parts stand for.
 use Rattle.std.specs.Prelude.{[]}
-use Rattle.c_mach.specs.declared.parts.Core.{Core}
-use Rattle.c_mach.specs.Applied.{Parts, parts_of, Fixed, fixed, seen}
+use Rattle.c_apply.specs.declared.parts.Core.{Core}
+use Rattle.c_apply.specs.Applied.{Parts, parts_of, Fixed, fixed, seen}
 use Rattle.c_mach.specs.Runs.{Run}
 
 abbrev pub run_from : Fixed → Parts → Run

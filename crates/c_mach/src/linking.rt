@@ -2,8 +2,10 @@
 ghost use Rattle.std.specs.Prelude.{◌≡◌, false, IfOk};
 ghost use Rattle.c_state.specs.State.{kind_of, first_value, first_spots, first_places};
 
+use c_look::parts::LinkedFile;
 use c_look::readings::kind_of;
 use c_state::{CFile, CItem, CType, Kind, Place, Spot, Value};
+use c_tables::LinkedItem;
 use cy_base::OutOfMemory;
 use sqlite_items::Items;
 use std::alloc::Global;
@@ -32,12 +34,12 @@ fn first_spot(kind: CType, place: Place) -> Spot
     }
 }
 
-fn first_spots(alloc: Global, items: &[CItem]) -> Result<Items<Spot>, OutOfMemory>
+fn first_spots(alloc: Global, items: &[LinkedItem]) -> Result<Items<Spot>, OutOfMemory>
     ensures { IfOk result (λ l. l ≡ first_spots items.now) }
 {
     let mut spots = Items::new(alloc);
     for item in items {
-        if let CItem::Static(kind, place) = item {
+        if let CItem::Static(kind, place) = item.item() {
             spots.push(first_spot(*kind, *place))?;
         }
     }
@@ -45,12 +47,23 @@ fn first_spots(alloc: Global, items: &[CItem]) -> Result<Items<Spot>, OutOfMemor
 }
 
 /// The places of each file.
-pub fn first_places(alloc: Global, files: &[CFile]) -> Result<Vec<Items<Spot>>, OutOfMemory>
+pub fn first_places(alloc: Global, files: &[LinkedFile]) -> Result<Vec<Items<Spot>>, OutOfMemory>
     ensures { IfOk result (λ v. v.items ≡ first_places files.now) }
 {
     let mut places = Vec::new(alloc);
     for file in files {
-        places.push(first_spots(alloc, file.items.as_slice())?)?;
+        places.push(first_spots(alloc, file.items())?)?;
     }
     Ok(places)
+}
+
+/// The files with their tables.
+pub fn linked_files(alloc: Global, files: Vec<CFile>) -> Result<Vec<LinkedFile>, OutOfMemory>
+    ensures { IfOk result (λ v. v.items ≡ files.items) }
+{
+    let mut linked = Vec::new(alloc);
+    for file in files {
+        linked.push(LinkedFile::new(alloc, file)?)?;
+    }
+    Ok(linked)
 }

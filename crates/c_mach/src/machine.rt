@@ -2,9 +2,9 @@
 ghost use Rattle.std.specs.Prelude.{◌≡◌, IfOk};
 ghost use Rattle.c_mach.specs.Runs.{linked_run, IsStepOf, IsKept};
 
-use crate::linking::first_places;
-use crate::parts::Core;
+use crate::linking::{first_places, linked_files};
 use crate::step::step;
+use c_apply::parts::Core;
 use c_state::{CFile, Course, Entry, Event, Step};
 use cy_base::OutOfMemory;
 use std::alloc::Global;
@@ -24,7 +24,7 @@ impl Model for Machine {
     ghost Value = { Run };
 
     ghost use Rattle.c_mach.specs.Deciding.{is_resting};
-    ghost use Rattle.c_mach.specs.Applied.{last_of};
+    ghost use Rattle.c_apply.specs.Applied.{last_of};
     ghost use Rattle.c_mach.specs.Held.{run_of};
 
     ghost view = { λ m. run_of m.core };
@@ -37,6 +37,7 @@ impl Machine {
     pub fn new(alloc: Global, files: Vec<CFile>) -> Result<Machine, OutOfMemory>
         ensures { IfOk result (λ m. m ≡ linked_run files.items) }
     {
+        let files = linked_files(alloc, files)?;
         let places = first_places(alloc, files.as_slice())?;
         Ok(Machine {
             core: Core {

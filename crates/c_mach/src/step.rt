@@ -3,27 +3,29 @@ ghost use Rattle.std.specs.Prelude.{◌≡◌, ◌∷◌, [], ◌++◌, ◌+◌,
 ghost use Rattle.std.specs.Option.{option_copied};
 ghost use Rattle.c_state.specs.declared.space.Entry.{Entry};
 ghost use Rattle.c_look.specs.Views.{function_at};
-ghost use Rattle.c_mach.specs.Applied.{parts_of, fixed, applied, effect_events, lends_of, moved_on, turn_events, last_of};
-ghost use Rattle.c_mach.specs.Turns.{effect_go};
-ghost use Rattle.c_mach.specs.Moves.{stage_of, go_of};
+ghost use Rattle.c_apply.specs.Applied.{parts_of, fixed, applied, effect_events, lends_of, moved_on, turn_events, last_of, NoFault};
+ghost use Rattle.c_turn.specs.Turns.{effect_go};
+ghost use Rattle.c_turn.specs.Moves.{stage_of, go_of};
 ghost use Rattle.c_plan.specs.Running.{lines_after, next_here, effect_here};
-ghost use Rattle.c_mach.specs.Deciding.{scene_at, stage_at, is_resting, NoFault, finished, finished_events, IsDecided, IsFirst, Starts, Ends, IsStep};
+ghost use Rattle.c_mach.specs.Deciding.{scene_at, stage_at, is_resting, finished, finished_events, IsDecided, IsFirst, Starts, Ends, IsStep};
 
-use crate::apply::{apply_effect, apply_turn, put};
-use crate::outside::{Move, Stage, effect_go, idle_go};
-use crate::parts::{Core, Turn};
+use c_apply::apply::{apply_effect, apply_turn, put};
+use c_apply::parts::Core;
 use c_look::parts::Activation;
 use c_plan::effects::Effect;
 use c_plan::scenes::Scene;
 use c_plan::statements::plan_here;
 use c_state::{Course, Entry, Event, FaultKind, Step};
+use c_turn::outside::{Move, Stage, effect_go, idle_go};
+use c_turn::parts::Turn;
 use cy_base::OutOfMemory;
+use sqlite_items::Boxed;
 
 /// What is decided for a frame: the number of its next line, the effect of its statement, and the outside's move.
 #[derive(Drop)]
 struct Decision {
     line: usize,
-    effect: Effect,
+    effect: Boxed<Effect>,
     next: Move,
 }
 
@@ -58,7 +60,7 @@ fn decide(
         caller,
         script,
         taken,
-        &planned.effect,
+        planned.effect.get(),
     )?;
     Ok(Decision {
         line: planned.line,
@@ -83,7 +85,7 @@ fn stage(core: &Core, begun: usize) -> Stage<'_>
 }
 
 /// The newest of the frames.
-#[tactic(auto, using(crate::proofs::Puts::lasts))]
+#[tactic(auto, using(c_apply::proofs::Puts::lasts))]
 fn newest(frames: &[Activation]) -> Option<&Activation>
     ensures { option_copied result ≡ last_of frames.now }
 {
@@ -139,8 +141,8 @@ fn finish(core: &mut Core, events: &mut Vec<Event>, top: Activation, decision: D
     let Decision { line, effect, next } = decision;
     let Move { turn, taken } = next;
     top.line = line;
-    apply_effect(core, events, top, effect);
-    apply_turn(core, events, turn, taken);
+    apply_effect(core, events, top, effect.into_inner());
+    apply_turn(core, events, turn.into_inner(), taken);
 }
 
 // The same, as one fact on the parts and one on the events.
@@ -189,17 +191,23 @@ fn prepare(
     ensures events_room { OnOk result (vec_len events.new + 3 ≤ vec_capacity events.new) }
 {
     let decision = decided(core, here, script, begun, taken)?;
-    make_room(core, events, lends_of(&decision.effect))?;
+    make_room(core, events, lends_of(decision.effect.get()))?;
     Ok(decision)
 }
 
-fn fault_of(effect: &Effect) -> Option<FaultKind>
+fn fault_in(effect: &Effect) -> Option<FaultKind>
     ensures { MatchOption result (NoFault effect.now) (λ k. effect.now ≡ Effect.Fault k) }
 {
     match effect {
         Effect::Fault(fault) => Some(*fault),
         _ => None,
     }
+}
+
+fn fault_of(decision: &Decision) -> Option<FaultKind>
+    ensures { MatchOption result (NoFault decision.now.effect) (λ k. decision.now.effect ≡ Effect.Fault k) }
+{
+    fault_in(decision.effect.get())
 }
 
 // Drops what was decided.
@@ -223,7 +231,7 @@ fn go_on(core: &mut Core, script: &[Entry], events: &mut Vec<Event>) -> Step
         put(&mut core.frames, top);
         return Step::Memory;
     };
-    match fault_of(&decision.effect) {
+    match fault_of(&decision) {
         Some(fault) => {
             let_go(decision);
             put(&mut core.frames, top);
@@ -236,13 +244,22 @@ fn go_on(core: &mut Core, script: &[Entry], events: &mut Vec<Event>) -> Step
     }
 }
 
-/// The outside's move where no function runs.
-fn first_move(core: &Core, script: &[Entry]) -> Result<Move, OutOfMemory>
+/// The outside's move where no function runs, and the number of entries that are taken with it.
+#[derive(Drop)]
+struct First {
+    turn: Turn,
+    taken: usize,
+}
+
+fn first_move(core: &Core, script: &[Entry]) -> Result<First, OutOfMemory>
     ensures { IfOk result (λ m. IsFirst (fixed core.now) (parts_of core.now) script.now m.taken m.turn) }
 {
     let stage = stage(core, core.begun);
     let first = idle_go(&stage, script, core.taken)?;
-    Ok(first)
+    Ok(First {
+        turn: first.turn.into_inner(),
+        taken: first.taken,
+    })
 }
 
 // Drops what isn't begun after all.
@@ -269,7 +286,7 @@ fn begin_with(
         let_start_go(event, frame);
         return Step::Memory;
     };
-    match fault_of(&decision.effect) {
+    match fault_of(&decision) {
         Some(fault) => {
             let_go(decision);
             let_start_go(event, frame);
@@ -321,7 +338,7 @@ fn start(core: &mut Core, script: &[Entry], events: &mut Vec<Event>) -> Step
     let Ok(first) = first_move(core, script) else {
         return Step::Memory;
     };
-    let Move { turn, taken } = first;
+    let First { turn, taken } = first;
     match turn {
         Turn::Begin(name, begun, frame) => {
             begin_with(core, script, events, Event::Init(name), frame, begun, taken)

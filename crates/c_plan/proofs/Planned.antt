@@ -40,7 +40,8 @@ use Rattle.c_look.specs.declared.parts.Activation.{Activation}
 use Rattle.c_plan.specs.declared.effects.Effect.{Effect}
 use Rattle.c_plan.specs.declared.effects.Effect.TheVariants as effect
 use Rattle.c_look.specs.Views.{function_there, found_at, found_with, frame_by, frame_view, activated, no_function}
-use Rattle.c_look.specs.Lookups.{label_line, standing_named}
+use Rattle.c_look.specs.Lookups.{standing_named}
+use Rattle.c_tables.specs.Lines.{label_line}
 use Rattle.c_plan.specs.Plans.{checked, after, loans_in, write_plan, unowned, own_after_store, store_plan, row_accepts, row_plan, ask_plan, call_held, call_there, call_plan, gain_of, gain_plan, loss_of, loss_plan, taken_line, branch_plan, jump_plan, hand_by, hand_plan, object_plan, null_plan, null_with, result_plan, return_plan, read_then, Scene, assign_plan, plan}
 use Rattle.c_look.specs.Readings.{may_write_with, operand_in, operands_in, may_read_with, held_in, all_held_in}
 use Rattle.c_plan.specs.Effects.{jumped, handed, effected}
@@ -299,7 +300,7 @@ gain-is files c fn a ls fs loans k v e =
 
 loss_of-is : (h : Here) (w : Value) → made h (loss_of h.frame.own w) ≡ owned_less h.state h.frame h.below w
 loss_of-is h (value.Object o) =
-    passes h ((has h.frame.own o, fault.Unheld) ∷ []) None (effect.Lose (lose h.frame.own o))
+    passes h ((has h.frame.own o, fault.Unheld) ∷ []) None (effect.Lose o)
     (Went (on (record h.state { loans = [] }) (record h.frame { own = lose h.frame.own o }) h.below)) refl
 loss_of-is h value.Unset = refl
 loss_of-is h value.Null = refl

@@ -9,7 +9,7 @@ use Rattle.c_state.specs.declared.state.Value.{Value}
 use Rattle.c_state.specs.declared.state.Doing.TheVariants as doing
 use Rattle.c_state.specs.declared.state.Course.{Course}
 use Rattle.c_state.specs.declared.state.Course.TheVariants as course
-use Rattle.c_state.specs.State.{put, put_to, Frame, CState}
+use Rattle.c_state.specs.State.{lose, put, put_to, Frame, CState}
 use Rattle.c_state.specs.Statements.{Moved, Went, Faulted, on, off, tell, lend, store}
 use Rattle.c_plan.specs.declared.effects.Effect.{Effect}
 use Rattle.c_plan.specs.declared.effects.Effect.TheVariants as effect
@@ -36,7 +36,7 @@ effected files c f fs (effect.Store p v own l) = Went (on (store (lend l c) f.fi
 effected files c f fs (effect.Ask o r x e) = Went (tell e (on (record c { loans = [] }) (record f { doing = doing.Asks o r x }) fs))
 effected files c f fs (effect.Call a x l) = Went (on (lend l c) (record (frame_view files a) { doing = doing.Runs }) (record f { doing = doing.Waits x } ∷ fs))
 effected files c f fs (effect.Gain own l) = Went (on (lend l c) (record f { own = own }) fs)
-effected files c f fs (effect.Lose own) = Went (on (record c { loans = [] }) (record f { own = own }) fs)
+effected files c f fs (effect.Lose o) = Went (on (record c { loans = [] }) (record f { own = lose f.own o }) fs)
 effected files c f fs (effect.Jump i l) = Went (on (lend l c) (jumped f i) fs)
 effected files c f fs (effect.Hand x v own l) = handed (lend l c) fs x v own
 effected files c f fs (effect.Leave o l) = Went (tell (event.Leave o) (off (lend l c) fs))

@@ -35,7 +35,8 @@ use Rattle.c_look.specs.declared.parts.Activation.{Activation}
 use Rattle.c_plan.specs.declared.effects.Effect.{Effect}
 use Rattle.c_plan.specs.declared.effects.Effect.TheVariants as effect
 use Rattle.c_look.specs.Views.{function_there, function_at, activated}
-use Rattle.c_look.specs.Lookups.{label_line, standing_named}
+use Rattle.c_look.specs.Lookups.{standing_named}
+use Rattle.c_tables.specs.Lines.{label_line}
 use Rattle.c_look.specs.Readings.{operand_in, operands_in, may_read_with, may_write_with, held_in, all_held_in}
 use Rattle.c_state.specs.declared.tree.CStmt.{CStmt}
 use Rattle.c_state.specs.declared.tree.CStmt.TheVariants as stmt
@@ -155,7 +156,7 @@ abbrev pub gain_plan : Bool → List (List Spot) → List Obj → Activation →
 gain_plan lock places loans here k v = after (counted_fault lock v) (gain_of places loans here k v v.value)
 
 abbrev pub loss_of : List Obj → Value → Effect
-loss_of own (value.Object o) = after (checked (has own o) fault.Unheld None) (effect.Lose (lose own o))
+loss_of own (value.Object o) = after (checked (has own o) fault.Unheld None) (effect.Lose o)
 loss_of own _ = effect.Fault fault.Stuck
 
 abbrev pub loss_plan : Bool → List Obj → Reading → Effect

@@ -6,7 +6,7 @@ use Rattle.c_state.specs.declared.state.Doing.{Doing}
 use Rattle.c_state.specs.declared.state.Doing.TheVariants as doing
 use Rattle.c_plan.specs.declared.effects.Effect.{Effect}
 use Rattle.c_plan.specs.declared.effects.Effect.TheVariants as effect
-use Rattle.c_look.specs.Lookups.{Next, Lines, NoLine, next_line}
+use Rattle.c_tables.specs.Lines.{Next, Lines, NoLine, next_line}
 use Rattle.c_plan.specs.Plans.{Scene, function_here, plan}
 
 -- what the next line comes to: a body that ends without a return is stuck

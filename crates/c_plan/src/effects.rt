@@ -17,8 +17,8 @@ pub enum Effect {
     Call(Activation, Option<Variable>, Items<Obj>),
     /// what the frame owns after an increment
     Gain(Items<Obj>, Items<Obj>),
-    /// what the frame owns after a decrement
-    Lose(Items<Obj>),
+    /// a decrement
+    Lose(Obj),
     /// a jump to a line, or to the next
     Jump(Option<usize>, Items<Obj>),
     /// a result goes to a variable of the caller; what the caller then owns

@@ -8,14 +8,15 @@ ghost use Rattle.c_look.specs.Readings.{all_held_in};
 use crate::effects::Effect;
 use c_look::copies::copy_value;
 use c_look::lookups::function_there;
-use c_look::parts::{Activation, Standing};
+use c_look::parts::{Activation, LinkedFile, Standing, turned};
 use c_look::readings::{
-    all_held, all_set, converted, fits, kind_of, lends, passed, reads_module_variable, receives,
+    all_held, all_set, fits, kind_of, lends, passed, reads_module_variable, receives,
 };
 use c_state::{
-    CFile, CFunction, CHead, CValue, Cell, Declaration, Doing, Entered, FaultKind, InitialValue,
-    Kind, Obj, Parameter, Reading, Spot, Value, Variable,
+    CFunction, CHead, CValue, Cell, Declaration, Doing, Entered, FaultKind, InitialValue, Kind,
+    Obj, Parameter, Reading, Spot, Value, Variable,
 };
+use c_tables::{Cells, converted};
 use cy_base::OutOfMemory;
 use sqlite_items::Items;
 use std::alloc::Global;
@@ -48,17 +49,6 @@ fn loans_in(alloc: Global, ks: &[CValue], vs: &[Reading]) -> Result<Items<Obj>, 
         lent.append(lends(alloc, k, v)?)?;
     }
     Ok(lent)
-}
-
-fn reversed(alloc: Global, objects: Items<Obj>) -> Result<Items<Obj>, OutOfMemory>
-    ensures { IfOk result (λ l. l ≡ reverse objects) }
-{
-    let mut objects = objects;
-    let mut turned = Items::new(alloc);
-    while let Some(object) = objects.pop() {
-        turned.push(object)?;
-    }
-    Ok(turned)
 }
 
 fn parameter_kinds_of(alloc: Global, parameters: &[Parameter]) -> Result<Items<Kind>, OutOfMemory>
@@ -137,10 +127,10 @@ fn declared_cell(declaration: Declaration) -> Cell
     }
 }
 
-fn declared_cells(alloc: Global, declarations: &[Declaration]) -> Result<Items<Cell>, OutOfMemory>
-    ensures { IfOk result (λ l. l ≡ map declared_cell declarations.now) }
+fn declared_cells(alloc: Global, declarations: &[Declaration]) -> Result<Vec<Cell>, OutOfMemory>
+    ensures { IfOk result (λ l. l.items ≡ map declared_cell declarations.now) }
 {
-    let mut cells = Items::new(alloc);
+    let mut cells = Vec::new(alloc);
     for declaration in declarations {
         cells.push(declared_cell(*declaration))?;
     }
@@ -152,10 +142,10 @@ fn plain_cells(
     alloc: Global,
     parameters: &[Parameter],
     values: &[Value],
-) -> Result<Items<Cell>, OutOfMemory>
-    ensures { IfOk result (λ l. l ≡ plain_cells parameters.now values.now) }
+) -> Result<Vec<Cell>, OutOfMemory>
+    ensures { IfOk result (λ l. l.items ≡ plain_cells parameters.now values.now) }
 {
-    let mut cells = Items::new(alloc);
+    let mut cells = Vec::new(alloc);
     for (i, parameter) in parameters.iter().enumerate() {
         let Some(value) = values.get(i) else {
             return Ok(cells);
@@ -182,10 +172,10 @@ fn cell(alloc: Global, variable: Variable, kind: Kind, value: &Value) -> Result<
     })
 }
 
-fn wrapper_cells(alloc: Global, values: &[Value]) -> Result<Items<Cell>, OutOfMemory>
-    ensures { IfOk result (λ l. l ≡ wrapper_cells values.now) }
+fn wrapper_cells(alloc: Global, values: &[Value]) -> Result<Vec<Cell>, OutOfMemory>
+    ensures { IfOk result (λ l. l.items ≡ wrapper_cells values.now) }
 {
-    let mut cells = Items::new(alloc);
+    let mut cells = Vec::new(alloc);
     if let [a, b, c] = values {
         cells.push(cell(alloc, Variable::SelfObject, Kind::PyObject, a)?)?;
         cells.push(cell(alloc, Variable::Arguments, Kind::Arguments, b)?)?;
@@ -194,17 +184,13 @@ fn wrapper_cells(alloc: Global, values: &[Value]) -> Result<Items<Cell>, OutOfMe
     Ok(cells)
 }
 
-fn parameter_cells(
-    alloc: Global,
-    head: &CHead,
-    values: &[Value],
-) -> Result<Items<Cell>, OutOfMemory>
-    ensures { IfOk result (λ l. l ≡ parameter_cells head.now values.now) }
+fn parameter_cells(alloc: Global, head: &CHead, values: &[Value]) -> Result<Vec<Cell>, OutOfMemory>
+    ensures { IfOk result (λ l. l.items ≡ parameter_cells head.now values.now) }
 {
     match head {
         CHead::Plain(_, _, _, parameters) => plain_cells(alloc, parameters.as_slice(), values),
         CHead::Wrapper(_, _) => wrapper_cells(alloc, values),
-        CHead::Initializer(_) => Ok(Items::new(alloc)),
+        CHead::Initializer(_) => Ok(Vec::new(alloc)),
     }
 }
 
@@ -222,7 +208,7 @@ fn call_enter(
     let values = values_of(alloc, vs)?;
     let frame = activate(alloc, entrance, function, values.as_slice(), lent)?;
     let lent = loans_in(alloc, ks, vs)?;
-    Ok(Effect::Call(frame, x, reversed(alloc, lent)?))
+    Ok(Effect::Call(frame, x, turned(alloc, lent)?))
 }
 
 fn call_held(
@@ -274,7 +260,7 @@ fn call_of(
 /// `x = cyc_f_M_K(k, ..);`
 pub fn call_plan(
     alloc: Global,
-    files: &[CFile],
+    files: &[LinkedFile],
     lock: bool,
     places: &[Items<Spot>],
     here: &Activation,
@@ -313,12 +299,12 @@ pub fn activate(
     ensures { IfOk result (λ a. a ≡ activated entrance.standing.file entrance.standing.item function.now values.now lent entrance.entered entrance.lock) }
 {
     let mut variables = declared_cells(alloc, function.declarations.as_slice())?;
-    variables.append(parameter_cells(alloc, &function.head, values)?)?;
+    variables.append(&mut parameter_cells(alloc, &function.head, values)?)?;
     Ok(Activation {
         file: entrance.standing.file,
         item: entrance.standing.item,
         line: 0,
-        variables,
+        variables: Cells::new(alloc, variables)?,
         own: Items::new(alloc),
         lent,
         entered: entrance.entered,
@@ -344,7 +330,7 @@ fn call_fault(
     if !fits(kinds, vs) {
         return Some(FaultKind::Stuck);
     }
-    if !receives(here.variables.as_slice(), x, result_kind(head)) {
+    if !receives(&here.variables, x, result_kind(head)) {
         return Some(FaultKind::Stuck);
     }
     if !all_set(vs) {

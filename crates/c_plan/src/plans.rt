@@ -8,18 +8,19 @@ ghost use Rattle.c_state.specs.Statements.{takes, object_of, text_of, definition
 ghost use Rattle.c_plan.specs.Plans.{checked, after, write_fault, write_plan, unowned, store_fault, own_after_store, store_plan, row_accepts, row_fault, ask_fault, row_plan, counted_fault, gain_of, gain_plan, loss_of, loss_plan, branch_fault, taken_line, branch_plan, jump_plan, return_fault, hand_by, hand_plan, object_plan, null_plan, null_with, result_plan, return_plan};
 
 use crate::effects::Effect;
+use c_ledger::{has, lose};
 use c_look::copies::{copy_bytes, copy_obj, copy_objs, copy_op, copy_value, with_first};
-use c_look::objects::{has, lose};
 use c_look::parts::Activation;
 use c_look::readings::{
-    all_held, all_set, any_null, by_comparison, comparable, converted, converts, fits, is_held,
-    is_null, is_set, lends, may_read, may_store, may_write, owns_just, owns_none, passed, receives,
+    all_held, all_set, any_null, by_comparison, comparable, converts, fits, is_held, is_null,
+    is_set, lends, may_read, may_store, may_write, owns_just, owns_none, passed, receives,
     same_lock, same_value,
 };
 use c_state::{
     ApiRow, BinaryOp, Bytes, CValue, Cell, Comparison, Doing, Entered, Event, FaultKind, Kind, Obj,
     Op, Place, Reading, Spot, Value, Variable,
 };
+use c_tables::{Cells, converted};
 use cy_base::OutOfMemory;
 use sqlite_items::Items;
 use std::alloc::Global;
@@ -107,6 +108,15 @@ fn moved_out(alloc: Global, old: &Value, own: Items<Obj>) -> Result<Items<Obj>, 
     }
 }
 
+/// The objects without the first that is the given one.
+fn without(alloc: Global, own: &[Obj], object: &Obj) -> Result<Items<Obj>, OutOfMemory>
+    ensures { IfOk result (λ l. l ≡ lose own.now object.now) }
+{
+    let mut kept = copy_objs(alloc, own)?;
+    lose(&mut kept, object);
+    Ok(kept)
+}
+
 fn own_after_store(
     alloc: Global,
     own: &[Obj],
@@ -116,7 +126,7 @@ fn own_after_store(
     ensures { IfOk result (λ l. l ≡ own_after_store own.now old.now value.now) }
 {
     match value {
-        Value::Object(object) => moved_out(alloc, old, lose(alloc, own, object)?),
+        Value::Object(object) => moved_out(alloc, old, without(alloc, own, object)?),
         _ => moved_out(alloc, old, copy_objs(alloc, own)?),
     }
 }
@@ -157,7 +167,7 @@ fn takes(row: ApiRow) -> &'static [Kind]
     }
 }
 
-fn row_accepts(row: ApiRow, cells: &[Cell], x: Option<Variable>) -> bool
+fn row_accepts(row: ApiRow, cells: &Cells, x: Option<Variable>) -> bool
     ensures { result ≡ row_accepts row cells.now x }
 {
     match row {
@@ -166,7 +176,7 @@ fn row_accepts(row: ApiRow, cells: &[Cell], x: Option<Variable>) -> bool
     }
 }
 
-fn row_fault(cells: &[Cell], x: Option<Variable>, row: ApiRow, vs: &[Reading]) -> Option<FaultKind>
+fn row_fault(cells: &Cells, x: Option<Variable>, row: ApiRow, vs: &[Reading]) -> Option<FaultKind>
     ensures { result ≡ row_fault cells.now x row vs.now }
 {
     if !fits(takes(row), vs) {
@@ -332,7 +342,7 @@ pub fn row_plan(
 ) -> Planned
     ensures { IfOk result (λ e. e ≡ row_plan lock error.now places.now here.now x row vs.now) }
 {
-    if let Some(fault) = row_fault(here.variables.as_slice(), x, row, vs) {
+    if let Some(fault) = row_fault(&here.variables, x, row, vs) {
         return Ok(Effect::Fault(fault));
     }
     let Some(op) = op_of(alloc, row, vs)? else {
@@ -408,7 +418,7 @@ fn loss_of(alloc: Global, own: &[Obj], object: &Obj) -> Planned
     if !has(own, object) {
         return Ok(Effect::Fault(FaultKind::Unheld));
     }
-    Ok(Effect::Lose(lose(alloc, own, object)?))
+    Ok(Effect::Lose(copy_obj(alloc, object)?))
 }
 
 /// `Py_DECREF(k);`

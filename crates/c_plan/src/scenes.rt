@@ -1,5 +1,5 @@
-use c_look::parts::Activation;
-use c_state::{CFile, Obj, Spot};
+use c_look::parts::{Activation, LinkedFile};
+use c_state::{Obj, Spot};
 use sqlite_items::Items;
 use std::alloc::Global;
 
@@ -7,7 +7,7 @@ use std::alloc::Global;
 #[derive(Clone, Copy)]
 pub struct Scene<'a> {
     pub alloc: Global,
-    pub files: &'a [CFile],
+    pub files: &'a [LinkedFile],
     pub places: &'a [Items<Spot>],
     pub lock: bool,
     pub error: &'a Option<Obj>,

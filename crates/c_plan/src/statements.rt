@@ -3,7 +3,7 @@ ghost use Rattle.std.specs.Prelude.{◌≡◌, drop, Option, Some, None, IfOk};
 ghost use Rattle.c_state.specs.declared.state.Reading.{Reading};
 ghost use Rattle.c_state.specs.Reads.{result_kind};
 ghost use Rattle.c_look.specs.Views.{function_at};
-ghost use Rattle.c_look.specs.Lookups.{label_line};
+ghost use Rattle.c_tables.specs.Lines.{label_line};
 ghost use Rattle.c_plan.specs.Plans.{Scene, function_here, operand_here, operands_here, read_then, assign_plan, row_plan, call_plan, gain_plan, loss_plan, branch_plan, jump_plan, return_plan, plan};
 ghost use Rattle.c_plan.specs.Running.{running_effect, effect_here, lines_after, next_here};
 ghost use Rattle.c_plan.specs.Scenes.{scene_of};
@@ -19,18 +19,18 @@ use crate::scenes::Scene;
 use c_look::lookups::{
     find_function, find_label, find_statement, function_there, items_at, spots_at,
 };
-use c_look::operands::{find_cell, find_spot, operand, operands};
-use c_look::parts::Activation;
+use c_look::operands::{find_spot, operand, operands};
+use c_look::parts::{Activation, LinkedFile};
 use c_state::{
-    ApiRow, CFile, CStmt, CValue, Comparison, Doing, FaultKind, FunctionName, Kind, Line, Reading,
-    Target, Variable,
+    ApiRow, CStmt, CValue, Comparison, Doing, FaultKind, FunctionName, Kind, Line, Reading, Target,
+    Variable,
 };
 use cy_base::OutOfMemory;
-use sqlite_items::Items;
+use sqlite_items::{Boxed, Items};
 
 type Plan = Result<Effect, OutOfMemory>;
 
-fn lines_here<'a>(files: &'a [CFile], here: &Activation) -> &'a [Line]
+fn lines_here<'a>(files: &'a [LinkedFile], here: &Activation) -> &'a [Line]
     ensures { result.now ≡ (function_at files.now here.now.file here.now.item).lines }
 {
     match function_there(files, here.file, here.item) {
@@ -39,7 +39,7 @@ fn lines_here<'a>(files: &'a [CFile], here: &Activation) -> &'a [Line]
     }
 }
 
-fn kind_here(files: &[CFile], here: &Activation) -> Kind
+fn kind_here(files: &[LinkedFile], here: &Activation) -> Kind
     ensures { result ≡ result_kind (function_at files.now here.now.file here.now.item).head }
 {
     match function_there(files, here.file, here.item) {
@@ -53,13 +53,7 @@ fn read(scene: &Scene<'_>, k: &CValue) -> Result<Option<Reading>, OutOfMemory>
 {
     let items = items_at(scene.files, scene.here.file);
     let spots = spots_at(scene.places, scene.here.file);
-    operand(
-        scene.alloc,
-        items,
-        spots,
-        scene.here.variables.as_slice(),
-        k,
-    )
+    operand(scene.alloc, items, spots, &scene.here.variables, k)
 }
 
 fn read_each(scene: &Scene<'_>, ks: &[CValue]) -> Result<Option<Items<Reading>>, OutOfMemory>
@@ -67,13 +61,7 @@ fn read_each(scene: &Scene<'_>, ks: &[CValue]) -> Result<Option<Items<Reading>>,
 {
     let items = items_at(scene.files, scene.here.file);
     let spots = spots_at(scene.places, scene.here.file);
-    operands(
-        scene.alloc,
-        items,
-        spots,
-        scene.here.variables.as_slice(),
-        ks,
-    )
+    operands(scene.alloc, items, spots, &scene.here.variables, ks)
 }
 
 fn assign_read(scene: &Scene<'_>, target: Target, k: &CValue, v: &Reading) -> Plan
@@ -82,7 +70,7 @@ fn assign_read(scene: &Scene<'_>, target: Target, k: &CValue, v: &Reading) -> Pl
     let alloc = scene.alloc;
     match target {
         Target::Variable(x) => {
-            let cell = find_cell(scene.here.variables.as_slice(), x);
+            let cell = scene.here.variables.find(x);
             write_plan(alloc, scene.lock, x, k, v, cell)
         }
         Target::Place(place) => {
@@ -185,7 +173,7 @@ fn branch_read(
     let Some(w) = read(scene, b)? else {
         return Ok(Effect::Fault(FaultKind::Stuck));
     };
-    let line = find_label(lines_here(scene.files, scene.here), label);
+    let line = find_label(scene.files, scene.here.file, scene.here.item, label);
     let right = Side {
         operand: b,
         reading: &w,
@@ -209,7 +197,7 @@ fn branch(scene: &Scene<'_>, a: &CValue, comparison: Comparison, b: &CValue, lab
 fn jump(scene: &Scene<'_>, label: u32) -> Effect
     ensures { result ≡ plan (scene_of scene.now) (stmt.Goto label) }
 {
-    let line = find_label(lines_here(scene.files, scene.here), label);
+    let line = find_label(scene.files, scene.here.file, scene.here.item, label);
     jump_plan(scene.alloc, line)
 }
 
@@ -247,11 +235,12 @@ pub fn plan(scene: &Scene<'_>, statement: &CStmt) -> Plan
     }
 }
 
-/// The number of the line after a frame's next statement, and what that statement comes to.
+/// The number of the line after a frame's next statement, and what that statement comes to, behind a pointer, so that
+/// what holds a plan isn't dropped effect by effect.
 #[derive(Drop)]
 pub struct Planned {
     pub line: usize,
-    pub effect: Effect,
+    pub effect: Boxed<Effect>,
 }
 
 #[tactic(auto, using(crate::proofs::Running::stuck))]
@@ -260,15 +249,15 @@ pub fn plan_here(scene: &Scene<'_>) -> Result<Planned, OutOfMemory>
     ensures effect { IfOk result (λ d. d.effect ≡ effect_here (scene_of scene.now)) }
     ensures line { IfOk result (λ d. drop d.line (function_here (scene_of scene.now)).lines ≡ lines_after (next_here (scene_of scene.now))) }
 {
-    let lines = lines_here(scene.files, scene.here);
-    match find_statement(lines, scene.here.line) {
+    let here = scene.here;
+    match find_statement(scene.files, here.file, here.item, here.line) {
         None => Ok(Planned {
-            line: lines.len(),
-            effect: Effect::Fault(FaultKind::Stuck),
+            line: lines_here(scene.files, here).len(),
+            effect: Boxed::new(scene.alloc, Effect::Fault(FaultKind::Stuck))?,
         }),
         Some(next) => Ok(Planned {
             line: next.after,
-            effect: running(scene, next.statement)?,
+            effect: Boxed::new(scene.alloc, running(scene, next.statement)?)?,
         }),
     }
 }

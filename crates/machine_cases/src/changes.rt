@@ -1,4 +1,5 @@
 //! The C of a thin function of two parameters, with one change in its body.
+use crate::long;
 use anyhow::{Result, anyhow};
 use c_state::{
     ApiRow, BinaryOp, Bytes, CFile, CFunction, CHead, CItem, CStmt, CType, CValue, Comparison,
@@ -122,13 +123,24 @@ fn function(alloc: Global, change: &str) -> Result<CFunction> {
     })
 }
 
+// The function in place of the module's.
+fn replaced(alloc: Global, change: &str) -> Result<CFunction> {
+    if change == "asks" {
+        return long::asking(alloc);
+    }
+    match change.strip_prefix("loop ") {
+        Some(size) => long::function(alloc, size.parse::<u32>()?),
+        None => function(alloc, change),
+    }
+}
+
 /// The files with the change, and as they are where none is named.
 pub fn changed(alloc: Global, files: Vec<CFile>, change: &str) -> Result<Vec<CFile>> {
     let mut files = files;
     if change.is_empty() {
         return Ok(files);
     }
-    let function = function(alloc, change)?;
+    let function = replaced(alloc, change)?;
     let file = files.get_mut(1).ok_or(anyhow!("no file of the module"))?;
     if file.items.len() <= FUNCTION_PLACE {
         return Err(anyhow!("no function"));

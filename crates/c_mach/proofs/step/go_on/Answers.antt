@@ -1,6 +1,6 @@
 use Rattle.std.proofs.Common.{◌∙◌, ap, List}
 use Rattle.c_state.specs.declared.space.Event.{Event}
-use Rattle.c_mach.specs.Applied.{Parts, parts_of, fixed}
+use Rattle.c_apply.specs.Applied.{Parts, parts_of, fixed}
 use Rattle.c_mach.specs.Deciding.{finished, finished_events}
 use Rattle.c_mach.proofs.Steps.{decides, is-memory, is-fault, is-went, went-rests, put-back}
 use Rattle.c_mach.proofs.step.go_on.Goals as goal

@@ -1,6 +1,6 @@
 use Rattle.std.proofs.Common.{refl, subst}
-use Rattle.c_mach.specs.declared.parts.Turn.{Turn}
-use Rattle.c_mach.specs.Applied.{parts_of, fixed}
+use Rattle.c_turn.specs.declared.parts.Turn.{Turn}
+use Rattle.c_apply.specs.Applied.{parts_of, fixed}
 use Rattle.c_mach.specs.Deciding.{IsFirst}
 use Rattle.c_mach.proofs.Steps.{is-memory, IsStart, first-start, starts-begin, starts-enter, first-ends}
 use Rattle.c_mach.proofs.step.start.Goals as goal

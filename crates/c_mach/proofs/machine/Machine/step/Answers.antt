@@ -1,4 +1,4 @@
-use Rattle.c_mach.specs.Applied.{parts_of, fixed}
+use Rattle.c_apply.specs.Applied.{parts_of, fixed}
 use Rattle.c_mach.proofs.Runs.{step-seen, kept-seen}
 use Rattle.c_mach.proofs.machine.Machine.step.Goals as goal
 

@@ -1,0 +1,2 @@
+pub mod ModuleRules
+pub mod OneMore

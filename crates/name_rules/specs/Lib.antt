@@ -1,0 +1,4 @@
+pub mod Breaches
+pub mod First
+pub mod Given
+pub mod GivenShown

@@ -1,0 +1,4 @@
+pub mod Entries
+pub mod EntriesShown
+pub mod Laws
+pub mod Shown

@@ -1,0 +1,4 @@
+pub mod Other
+pub mod EndOf
+pub mod Whole
+pub mod Known

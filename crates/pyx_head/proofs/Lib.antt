@@ -1,0 +1,2 @@
+pub mod NoParam
+pub mod Valued

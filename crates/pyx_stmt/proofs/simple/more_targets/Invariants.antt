@@ -1,0 +1,13 @@
+use Rattle.std.proofs.Common.{◌≡◌, ◌-◌}
+use Rattle.forms.specs.Readers.{read_both, read_one, read_many}
+use Rattle.forms.specs.Lists.{second, itself}
+use Rattle.forms.proofs.Loops.{with_front, left}
+use Rattle.token_class.specs.Sets.{of}
+use Rattle.expr_grammar.specs.Words as set
+use Rattle.decl_grammar.specs.Reading as spec
+use Rattle.pyx_stmt.proofs.simple.more_targets.Given as goal
+
+abbrev pub invariant-loop-turn : goal.invariant-loop-turn
+invariant-loop-turn l =
+    let item = (read_both second (read_one (of set.is_comma) itself) (spec.read_expr l.room)) in
+    read_many (of set.is_comma) item l.fn.input ≡ with_front l.found (left (l._turn-end - l._turn) (of set.is_comma) item l.input)
