@@ -82,7 +82,10 @@ fn inside(out: Writer, f: &CFunction) -> Put
     requires { AllByRecursion IsLine f.now.lines }
     ensures { IfOk result (λ new. new ≡ out ++ (flat_map declaration_spelling f.now.declarations ++ flat_map line_spelling f.now.lines)) }
 {
-    lines(declarations(out, f.declarations.as_slice())?, f.lines.as_slice())
+    lines(
+        declarations(out, f.declarations.as_slice())?,
+        f.lines.as_slice(),
+    )
 }
 
 /// Writes a function. Its braces stand on lines of their own.

@@ -1,6 +1,7 @@
 //! Signs and words that are the same everywhere, with the blanks that stand around them.
 ghost use Rattle.std.specs.Prelude.{◌≡◌, ◌++◌, ◌∷◌, [], IfOk};
-ghost use Rattle.c_state.specs.CTokens.{sign, word};
+ghost use Rattle.c_state.specs.CTokens.{sign};
+ghost use Rattle.c_tree.specs.Names.{text};
 
 use c_writer::Writer;
 use std::alloc::AllocError;
@@ -110,4 +111,25 @@ pub(crate) fn line(out: Writer) -> Put
     ensures { IfOk result (λ new. new ≡ out ++ []) }
 {
     out.fresh()
+}
+
+#[tactic(auto, unfolding(c_state::specs::CTokens::c_tokens, c_state::specs::CTokens::tokens_from))]
+pub(crate) fn gives(out: Writer) -> Put
+    ensures { IfOk result (λ new. new ≡ out ++ text "=") }
+{
+    out.text(b" = ")
+}
+
+#[tactic(auto, unfolding(c_state::specs::CTokens::c_tokens, c_state::specs::CTokens::tokens_from))]
+pub(crate) fn points(out: Writer) -> Put
+    ensures { IfOk result (λ new. new ≡ out ++ text "= &") }
+{
+    out.text(b" = &")
+}
+
+#[tactic(auto, unfolding(c_state::specs::CTokens::c_tokens, c_state::specs::CTokens::tokens_from))]
+pub(crate) fn ends(out: Writer) -> Put
+    ensures { IfOk result (λ new. new ≡ out ++ text "};") }
+{
+    out.text(b"\n};")
 }

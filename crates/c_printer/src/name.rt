@@ -24,7 +24,7 @@ fn fixed(out: Writer, x: FixedParameter) -> Put
     }
 }
 
-fn place(out: Writer, x: Place) -> Put
+pub(crate) fn place(out: Writer, x: Place) -> Put
     ensures { IfOk result (λ new. new ≡ out ++ Word (place_name x) ∷ []) }
 {
     match x {

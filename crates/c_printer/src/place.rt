@@ -10,7 +10,10 @@ ghost use Rattle.c_tree.specs.Statements.{argument_spelling, arguments, between,
 use crate::mark::{Put, close, comma, dot, open};
 use crate::name::{function, numbered, variable};
 use crate::value::{index, kind, value};
-use c_tree::{Argument, BinaryOp, CTest, CType, CValue, Callee, Extent, FieldPlace, Numbered, Variable, ViewNumber, ViewPlace};
+use c_tree::{
+    Argument, BinaryOp, CTest, CType, CValue, Callee, Extent, FieldPlace, Numbered, Variable,
+    ViewNumber, ViewPlace,
+};
 use c_writer::Writer;
 
 fn operator(out: Writer, op: BinaryOp) -> Put

@@ -9,9 +9,15 @@ ghost use Rattle.c_printer.specs.Before.{before};
 
 use crate::mark::{Put, ampersand, close, equals, open, semicolon, tilde};
 use crate::name::{numbered, variable};
-use crate::place::{all_arguments, buffer, called, condition, element_place, extent, field_place, method, table_place, told, two, view_place};
+use crate::place::{
+    all_arguments, buffer, called, condition, element_place, extent, field_place, method,
+    table_place, told, two, view_place,
+};
 use crate::value::{kind, value};
-use c_tree::{Argument, BinaryOp, CStmt, CTest, CType, CValue, Callee, Extent, FieldPlace, Numbered, Variable, ViewNumber, ViewPlace};
+use c_tree::{
+    Argument, BinaryOp, CStmt, CTest, CType, CValue, Callee, Extent, FieldPlace, Numbered,
+    Variable, ViewNumber, ViewPlace,
+};
 use c_writer::Writer;
 
 fn to(out: Writer, x: Variable) -> Put
@@ -98,7 +104,14 @@ fn method_call(out: Writer, n: Numbered, y: Variable, number: u32, all: &[Argume
     all_arguments(method(out, n, y, number)?, all)
 }
 
-fn call_method(out: Writer, x: Option<Variable>, n: Numbered, y: Variable, number: u32, all: &[Argument]) -> Put
+fn call_method(
+    out: Writer,
+    x: Option<Variable>,
+    n: Numbered,
+    y: Variable,
+    number: u32,
+    all: &[Argument],
+) -> Put
     ensures { IfOk result (λ new. new ≡ out ++ (given x (method_of n y number ++ arguments all.now))) }
 {
     semicolon(method_call(destination(out, x)?, n, y, number, all)?)
@@ -109,7 +122,11 @@ fn native_test(out: Writer, y: Variable, n: Numbered) -> Put
 {
     let out = variable(out.text(b"PyCFunction_Check(")?, y)?;
     let out = variable(out.text(b") && PyCFunction_GetFunction(")?, y)?;
-    numbered(out.text(b") == (PyCFunction)(void (*)(void))")?, b"cyc_w_", n)
+    numbered(
+        out.text(b") == (PyCFunction)(void (*)(void))")?,
+        b"cyc_w_",
+        n,
+    )
 }
 
 fn is_native(out: Writer, x: Variable, y: Variable, n: Numbered) -> Put
@@ -282,7 +299,14 @@ pub(crate) fn statement(out: Writer, s: &CStmt) -> Put
         CStmt::LoadField(x, p) => load_field(out, *x, *p),
         CStmt::StoreField(p, k) => store_field(out, *p, *k),
         CStmt::StoreTable(y, n) => store_table(out, *y, *n),
-        CStmt::CallMethod(x, n, y, number, all) => call_method(out, *x, *n, *y, *number, all.as_slice()),
+        CStmt::CallMethod(x, n, y, number, all) => call_method(
+            out,
+            *x,
+            *n,
+            *y,
+            *number,
+            all.as_slice(),
+        ),
         CStmt::IsNative(x, y, n) => is_native(out, *x, *y, *n),
         CStmt::HasHeapType(x, y) => has_heap_type(out, *x, *y),
         CStmt::Goto(t, label) => goto(out, *t, *label),

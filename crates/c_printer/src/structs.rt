@@ -55,7 +55,9 @@ fn class_table(out: Writer, n: Numbered) -> Put
 fn slot(out: Writer, it: &Slot) -> Put
     ensures { IfOk result (λ new. new ≡ out ++ slot_spelling it.now) }
 {
-    let out = given(out, it.result)?.text(b"(*")?.lettered(b"m", it.number)?;
+    let out = given(out, it.result)?
+        .text(b"(*")?
+        .lettered(b"m", it.number)?;
     types(out.text(b")")?, it.parameters.as_slice())?.text(b";")
 }
 

@@ -12,7 +12,7 @@ use crate::name::{getter, methods, numbered, setter};
 use c_tree::{FieldNumber, MethodRow, Numbered, PropertyRow, TableName, TypeObject};
 use c_writer::Writer;
 
-fn static_word(out: Writer, is_static: bool) -> Put
+pub(crate) fn static_word(out: Writer, is_static: bool) -> Put
     ensures { IfOk result (λ new. new ≡ out ++ static_or is_static []) }
 {
     if is_static {
@@ -25,7 +25,11 @@ fn method_row(out: Writer, row: &MethodRow) -> Put
     ensures { IfOk result (λ new. new ≡ out ++ method_spelling row.now) }
 {
     let out = open_brace(line(out)?)?.string(row.name.as_slice())?;
-    let out = numbered(out.text(b", (PyCFunction)(void (*)(void))")?, b"cyc_w_", row.wrapper)?;
+    let out = numbered(
+        out.text(b", (PyCFunction)(void (*)(void))")?,
+        b"cyc_w_",
+        row.wrapper,
+    )?;
     out.text(b", METH_FASTCALL, NULL},")
 }
 
@@ -85,6 +89,8 @@ pub(crate) fn property_table(out: Writer, is_static: bool, n: Numbered, rows: &[
 pub(crate) fn module_definition(out: Writer, is_static: bool, name: &[u8]) -> Put
     ensures { IfOk result (λ new. new ≡ out ++ (static_or is_static [] ++ (text "struct PyModuleDef cyc_def = { PyModuleDef_HEAD_INIT," ++ (string name.now ∷ text ", NULL, -1, cyc_md };")))) }
 {
-    let out = static_word(out, is_static)?.text(b"struct PyModuleDef cyc_def = { PyModuleDef_HEAD_INIT,")?;
+    let out = static_word(out, is_static)?.text(
+        b"struct PyModuleDef cyc_def = { PyModuleDef_HEAD_INIT,",
+    )?;
     out.string(name)?.text(b", NULL, -1, cyc_md };")
 }
