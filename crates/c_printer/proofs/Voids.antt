@@ -1,5 +1,5 @@
 -- A list of types or parameters that isn't empty has no `void` in its place.
-use Rattle.std.proofs.Common.{◌≡◌, List, ◌++◌, refl, append_assoc}
+use Rattle.std.proofs.Common.{◌≡◌, List, ◌++◌, refl}
 use Rattle.c_state.specs.CTokens.{CToken, c_tokens, tokens_from}
 use Rattle.c_tree.specs.declared.value.CType.{CType}
 use Rattle.c_tree.specs.declared.value.CType.TheVariants as type

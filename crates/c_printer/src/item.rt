@@ -6,6 +6,7 @@ ghost use Rattle.c_tree.specs.Names.{name_token, place_name, text};
 ghost use Rattle.c_tree.specs.Values.{result_spelling, type_spelling};
 ghost use Rattle.c_tree.specs.Forms.{IsFile, IsFunctionName, IsItem};
 ghost use Rattle.c_tree.specs.Items.{function_token, item_spelling, types_spelling};
+ghost use Rattle.c_tree.specs.Reading.{c_reading};
 
 use crate::fixed::{format_test, root_struct, view_type};
 use crate::function::function_item;
@@ -132,13 +133,20 @@ fn items(out: Writer, all: &[CItem]) -> Put
     Ok(out)
 }
 
-/// The text of a file of the profile: its tokens are those of its items, one after the other (ISO/IEC 9899:2011 6.4).
-/// Want of memory is answered where the text doesn't fit.
-#[tactic(auto, unfolding(c_tree::specs::Forms::IsFile))]
-pub fn print(alloc: Global, file: &CFile) -> Result<Vec<u8>, OutOfMemory>
-    requires { IsFile file.now }
-    ensures tokens { IfOk result (λ bytes. c_tokens bytes.items ≡ flat_map item_spelling file.now.items) }
+fn written(alloc: Global, file: &CFile) -> Result<Vec<u8>, OutOfMemory>
+    requires { AllByRecursion IsItem file.now.items }
+    ensures { IfOk result (λ bytes. c_tokens bytes.items ≡ flat_map item_spelling file.now.items) }
 {
     let out = items(Writer::new(alloc), file.items.as_slice())?;
     Ok(out.fresh()?.finish())
+}
+
+/// The text of a file of the profile. Its tokens are those of the items, one after the other, and it reads back as the
+/// file, whole (ISO/IEC 9899:2011 6.4, 6.9). Want of memory is answered where the text doesn't fit.
+pub fn print(alloc: Global, file: &CFile) -> Result<Vec<u8>, OutOfMemory>
+    requires { IsFile file.now }
+    ensures tokens { IfOk result (λ bytes. c_tokens bytes.items ≡ flat_map item_spelling file.now.items) }
+    ensures read_back { IfOk result (λ bytes. c_reading bytes.items file.now.items true) }
+{
+    written(alloc, file)
 }

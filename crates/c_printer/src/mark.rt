@@ -133,3 +133,18 @@ pub(crate) fn ends(out: Writer) -> Put
 {
     out.text(b"\n};")
 }
+
+/// Begins a line further in.
+#[tactic(auto, unfolding(c_state::specs::CTokens::c_tokens, c_state::specs::CTokens::tokens_from))]
+pub(crate) fn indent(out: Writer) -> Put
+    ensures { IfOk result (λ new. new ≡ out ++ []) }
+{
+    out.fresh()?.text(b"    ")
+}
+
+#[tactic(auto, unfolding(c_state::specs::CTokens::c_tokens, c_state::specs::CTokens::tokens_from))]
+pub(crate) fn blank(out: Writer) -> Put
+    ensures { IfOk result (λ new. new ≡ out ++ []) }
+{
+    out.text(b" ")
+}

@@ -6,7 +6,7 @@ ghost use Rattle.c_tree.specs.Values.{string};
 ghost use Rattle.c_tree.specs.Items.{member, members, static_or, type_members};
 ghost use Rattle.c_printer.specs.Members.{first_three, later};
 
-use crate::mark::{Put, comma, ends, equals, gives, line, open_brace, points};
+use crate::mark::{Put, comma, ends, equals, gives, indent, open_brace, points};
 use crate::name::numbered;
 use crate::tables::static_word;
 use c_tree::{Numbered, TypeObject};
@@ -23,7 +23,7 @@ fn base_if_any(out: Writer, it: Option<Numbered>) -> Put
 {
     match it {
         None => Ok(out),
-        Some(n) => base_member(comma(out)?, n),
+        Some(n) => base_member(indent(comma(out)?)?, n),
     }
 }
 
@@ -38,7 +38,7 @@ fn new_if_any(out: Writer, it: Option<Numbered>) -> Put
 {
     match it {
         None => Ok(out),
-        Some(n) => new_member(comma(out)?, n),
+        Some(n) => new_member(indent(comma(out)?)?, n),
     }
 }
 
@@ -53,7 +53,7 @@ fn init_if_any(out: Writer, it: Option<Numbered>) -> Put
 {
     match it {
         None => Ok(out),
-        Some(n) => init_member(comma(out)?, n),
+        Some(n) => init_member(indent(comma(out)?)?, n),
     }
 }
 
@@ -68,7 +68,7 @@ fn dealloc_if_any(out: Writer, it: Option<Numbered>) -> Put
 {
     match it {
         None => Ok(out),
-        Some(n) => dealloc_member(comma(out)?, n),
+        Some(n) => dealloc_member(indent(comma(out)?)?, n),
     }
 }
 
@@ -83,7 +83,7 @@ fn methods_if_any(out: Writer, it: Option<Numbered>) -> Put
 {
     match it {
         None => Ok(out),
-        Some(n) => methods_member(comma(out)?, n),
+        Some(n) => methods_member(indent(comma(out)?)?, n),
     }
 }
 
@@ -98,7 +98,7 @@ fn properties_if_any(out: Writer, it: Option<Numbered>) -> Put
 {
     match it {
         None => Ok(out),
-        Some(n) => properties_member(comma(out)?, n),
+        Some(n) => properties_member(indent(comma(out)?)?, n),
     }
 }
 
@@ -113,7 +113,7 @@ fn sequence_if_any(out: Writer, it: Option<Numbered>) -> Put
 {
     match it {
         None => Ok(out),
-        Some(n) => sequence_member(comma(out)?, n),
+        Some(n) => sequence_member(indent(comma(out)?)?, n),
     }
 }
 
@@ -128,7 +128,7 @@ fn mapping_if_any(out: Writer, it: Option<Numbered>) -> Put
 {
     match it {
         None => Ok(out),
-        Some(n) => mapping_member(comma(out)?, n),
+        Some(n) => mapping_member(indent(comma(out)?)?, n),
     }
 }
 
@@ -161,7 +161,7 @@ fn contains_if_any(out: Writer, it: Option<Numbered>) -> Put
 {
     match it {
         None => Ok(out),
-        Some(n) => contains_member(comma(out)?, n),
+        Some(n) => contains_member(indent(comma(out)?)?, n),
     }
 }
 
@@ -170,7 +170,7 @@ fn subscript_if_any(out: Writer, it: Option<Numbered>) -> Put
 {
     match it {
         None => Ok(out),
-        Some(n) => subscript_member(comma(out)?, n),
+        Some(n) => subscript_member(indent(comma(out)?)?, n),
     }
 }
 
@@ -254,9 +254,9 @@ fn size_of(out: Writer, n: Numbered) -> Put
 fn three(out: Writer, it: &TypeObject) -> Put
     ensures { IfOk result (λ new. new ≡ out ++ first_three it.now) }
 {
-    let out = comma(name_member(line(out)?, it.name.as_slice())?)?;
-    let out = comma(size_of(line(out)?, it.size)?)?;
-    line(out)?.text(b".tp_flags = Py_TPFLAGS_DEFAULT | Py_TPFLAGS_BASETYPE")
+    let out = comma(name_member(indent(out)?, it.name.as_slice())?)?;
+    let out = comma(size_of(indent(out)?, it.size)?)?;
+    indent(out)?.text(b".tp_flags = Py_TPFLAGS_DEFAULT | Py_TPFLAGS_BASETYPE")
 }
 
 fn functions(out: Writer, it: &TypeObject) -> Put

@@ -1,7 +1,7 @@
 -- How the items of a file are spelled. The project's own profile of C (ISO/IEC 9899:2011 6.7, 6.9; Python/C API manual,
 -- "Common Object Structures", "Type Objects", "Module Objects").
 use Prim.Native.String.{String}
-use Rattle.std.specs.Prelude.{ℕ, suc, List, [], ◌∷◌, ◌++◌, Bool, true, false, Option, Some, None, length, replicate, codes}
+use Rattle.std.specs.Prelude.{ℕ, suc, List, [], ◌∷◌, ◌++◌, Bool, true, false, Option, Some, None, length, replicate}
 use Rattle.std.specs.List.{flat_map}
 use Rattle.c_state.specs.CTokens.{CToken, Word, word, sign}
 use Rattle.c_tree.specs.declared.item.Base.{Base}
@@ -28,7 +28,6 @@ use Rattle.c_tree.specs.declared.name.FieldNumber.{FieldNumber}
 use Rattle.c_tree.specs.declared.name.FunctionName.{FunctionName}
 use Rattle.c_tree.specs.declared.name.FunctionName.TheVariants as function
 use Rattle.c_tree.specs.declared.name.Numbered.{Numbered}
-use Rattle.c_tree.specs.declared.name.TableName.{TableName}
 use Rattle.c_tree.specs.declared.name.Variable.TheVariants as variables
 use Rattle.c_tree.specs.declared.value.CResult.{CResult}
 use Rattle.c_tree.specs.declared.value.CType.{CType}

@@ -1,7 +1,7 @@
 -- Names that end in numbers are one word.
-use Rattle.std.proofs.Common.{◌≡◌, ℕ, ◌^◌, ◌<◌, List, [], ◌∷◌, ◌++◌, false, true, refl, get_or, decimal}
+use Rattle.std.proofs.Common.{◌≡◌, ℕ, List, [], ◌∷◌, ◌++◌, false, refl, get_or, decimal}
 use Rattle.std.specs.Prelude.{codes}
-use Rattle.c_state.specs.CTokens.{CToken, Word, c_tokens}
+use Rattle.c_state.specs.CTokens.{Word, c_tokens}
 use Rattle.c_state.specs.CReading.{AreWordBytes, IsNumberInForm}
 use Rattle.c_state.proofs.Tokens.{name_append, decimal_name}
 use Rattle.c_writer.specs.Rest.{glue, IsAtRest, IsLetters, two_numbers}

@@ -6,7 +6,7 @@ use Rattle.std.specs.Str.{bytes_eq}
 use Rattle.std.proofs.lemmas.Bool.{eqb-true, ne_eqb}
 use Rattle.std.proofs.lemmas.Bool.Decides.{nat_tests}
 use Rattle.std.proofs.lemmas.Slice.Eq.{bytes_eq-Decides}
-use Rattle.c_state.specs.CTokens.{CToken, Word, Sign, Other, Str, Character, CLine, Fresh, Text, Hash, Include, Directive, after, line_end, Mode, Between, InWord, InSign, InQuotes, AfterBackslash, InHeader, HeaderName, Step, goes_on, gives, before, begin, ends, ByteKind, LineFeed, Blank, WordByte, Quote, Alone, Joining, Neither, kind_of, is_word_byte, is_long_sign, long_signs, quoted, step, tokens_from, c_tokens}
+use Rattle.c_state.specs.CTokens.{CToken, Word, Sign, Other, Str, Character, CLine, Fresh, Text, Hash, Include, Directive, after, Mode, Between, InWord, InSign, InQuotes, AfterBackslash, InHeader, HeaderName, Step, goes_on, gives, begin, ends, ByteKind, LineFeed, Blank, WordByte, Quote, Alone, Joining, Neither, kind_of, is_word_byte, is_long_sign, long_signs, quoted, step, tokens_from, c_tokens}
 use Rattle.c_state.specs.CReading.{AreWordBytes, quoted_byte}
 use Rattle.c_state.proofs.Tokens.{word_tokens, string_tokens}
 use Rattle.c_writer.specs.Rest.{mode_after, is_text_line, is_at_rest, has_no_hash, is_whole_text, is_joining, glue, fits, IsAtRest}
@@ -152,6 +152,7 @@ rest_alike a b e = same a ∙ (ap is_at_rest e ∙ sym (same b))
     line_same Hash = refl
     line_same Include = refl
     line_same Directive = refl
+
     same : (m : Mode) → is_at_rest m ≡ is_at_rest (textual m)
     same (Between line) = line_same line
     same (InWord line letters) = line_same line
@@ -308,15 +309,17 @@ Closes mode b = ((step mode b).given ≡ closing mode ++ (step (Between Text) b)
 
 sign_closes : (line : CLine) → text_line line ≡ Text → (letters : List ℕ) (last b : ℕ) → is_joining last ≡ true → glue last b ≡ false → Closes (InSign line letters) b
 sign_closes Fresh t letters last b f g =
-    let n = no_long letters b (no_join last b f g) in
-    (ap (λ c. (if c then goes_on (InSign Fresh (letters ++ b ∷ [])) else ends (Sign letters) Fresh b).given) n
-    ∙ sym (ap (λ c. (if c then goes_on (InSign Fresh (letters ++ 10 ∷ [])) else ends (Sign letters) Fresh 10).given ++ (step (Between Text) b).given) (no_long letters 10 refl)),
-    ap (λ c. textual (if c then goes_on (InSign Fresh (letters ++ b ∷ [])) else ends (Sign letters) Fresh b).next) n)
+    let n = no_long letters b (no_join last b f g) in (
+      ap (λ c. (if c then goes_on (InSign Fresh (letters ++ b ∷ [])) else ends (Sign letters) Fresh b).given) n
+          ∙ sym (ap (λ c. (if c then goes_on (InSign Fresh (letters ++ 10 ∷ [])) else ends (Sign letters) Fresh 10).given ++ (step (Between Text) b).given) (no_long letters 10 refl)),
+      ap (λ c. textual (if c then goes_on (InSign Fresh (letters ++ b ∷ [])) else ends (Sign letters) Fresh b).next) n,
+    )
 sign_closes Text t letters last b f g =
-    let n = no_long letters b (no_join last b f g) in
-    (ap (λ c. (if c then goes_on (InSign Text (letters ++ b ∷ [])) else ends (Sign letters) Text b).given) n
-    ∙ sym (ap (λ c. (if c then goes_on (InSign Text (letters ++ 10 ∷ [])) else ends (Sign letters) Text 10).given ++ (step (Between Text) b).given) (no_long letters 10 refl)),
-    ap (λ c. textual (if c then goes_on (InSign Text (letters ++ b ∷ [])) else ends (Sign letters) Text b).next) n)
+    let n = no_long letters b (no_join last b f g) in (
+      ap (λ c. (if c then goes_on (InSign Text (letters ++ b ∷ [])) else ends (Sign letters) Text b).given) n
+          ∙ sym (ap (λ c. (if c then goes_on (InSign Text (letters ++ 10 ∷ [])) else ends (Sign letters) Text 10).given ++ (step (Between Text) b).given) (no_long letters 10 refl)),
+      ap (λ c. textual (if c then goes_on (InSign Text (letters ++ b ∷ [])) else ends (Sign letters) Text b).next) n,
+    )
 sign_closes Hash t letters last b f g = cc
 sign_closes Include t letters last b f g = cc
 sign_closes Directive t letters last b f g = cc

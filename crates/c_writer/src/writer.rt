@@ -40,7 +40,20 @@ fn joins(b: u8) -> bool
 {
     matches!(
         b,
-        b'=' | b'!' | b'<' | b'>' | b'-' | b'&' | b'|' | b'+' | b'*' | b'/' | b'%' | b'^' | b'#' | b':' | b'.'
+        b'=' | b'!'
+            | b'<'
+            | b'>'
+            | b'-'
+            | b'&'
+            | b'|'
+            | b'+'
+            | b'*'
+            | b'/'
+            | b'%'
+            | b'^'
+            | b'#'
+            | b':'
+            | b'.'
     )
 }
 
@@ -175,7 +188,13 @@ impl Writer {
     }
 
     /// Writes letters and three numbers, with `_` between them, as one word.
-    pub fn with_three(self, letters: &[u8], first: u32, second: u32, third: u32) -> Result<Writer, AllocError>
+    pub fn with_three(
+        self,
+        letters: &[u8],
+        first: u32,
+        second: u32,
+        third: u32,
+    ) -> Result<Writer, AllocError>
         requires { IsLetters letters.now }
         ensures { IfOk result (λ new. new ≡ self ++ Word (letters.now ++ (two_numbers first second ++ (codes "_" ++ decimal third))) ∷ []) }
     {

@@ -1,4 +1,3 @@
-use Rattle.std.proofs.Common.{◌≡◌, [], ◌∷◌}
 use Rattle.c_writer.proofs.Splits.{blank_rests, blank_written}
 use Rattle.c_writer.proofs.writer.apart.Goals as goal
 

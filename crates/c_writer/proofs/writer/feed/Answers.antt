@@ -1,4 +1,3 @@
-use Rattle.std.proofs.Common.{◌≡◌, ◌++◌}
 use Rattle.c_writer.proofs.Splits.{feed_rests, feed_written}
 use Rattle.c_writer.proofs.writer.feed.Goals as goal
 

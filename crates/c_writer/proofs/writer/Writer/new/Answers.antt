@@ -1,4 +1,4 @@
-use Rattle.std.proofs.Common.{◌≡◌, [], refl, ap}
+use Rattle.std.proofs.Common.{ap}
 use Rattle.c_state.specs.CTokens.{c_tokens, tokens_from}
 use Rattle.c_writer.proofs.writer.Writer.new.Goals as goal
 

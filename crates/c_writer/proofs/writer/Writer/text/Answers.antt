@@ -1,4 +1,4 @@
-use Rattle.std.proofs.Common.{◌≡◌, ◌++◌, ◌∙◌, ap}
+use Rattle.std.proofs.Common.{◌++◌, ◌∙◌, ap}
 use Rattle.c_state.specs.CTokens.{c_tokens}
 use Rattle.c_writer.proofs.Splits.{whole_rests, whole_written}
 use Rattle.c_writer.proofs.writer.Writer.text.Goals as goal
