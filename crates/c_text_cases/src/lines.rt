@@ -92,7 +92,7 @@ fn no_line(alloc: Global) -> Items<Line>
     Items::new(alloc)
 }
 
-#[tactic(auto, using(crate::proofs::Lines::lines_append))]
+#[tactic(auto, using(crate::proofs::Appended::lines_append))]
 fn then(lines: Items<Line>, s: CStmt) -> Result<Items<Line>>
     requires before { AreLines lines }
     requires statement { IsStatement s }
@@ -104,7 +104,7 @@ fn then(lines: Items<Line>, s: CStmt) -> Result<Items<Line>>
 }
 
 // A label, and the statement behind it.
-#[tactic(auto, using(crate::proofs::Lines::lines_append))]
+#[tactic(auto, using(crate::proofs::Appended::lines_append))]
 fn labelled(alloc: Global, lines: Items<Line>, label: u32, s: CStmt) -> Result<Items<Line>>
     requires before { AreLines lines }
     requires statement { IsStatement s }

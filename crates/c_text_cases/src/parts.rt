@@ -158,7 +158,7 @@ fn places(alloc: Global) -> Result<Items<CItem>>
     Ok(items)
 }
 
-#[tactic(auto, using(crate::proofs::Lines::all_append))]
+#[tactic(auto, using(crate::proofs::Appended::all_append))]
 fn with(items: Items<CItem>, it: CItem) -> Result<Items<CItem>>
     requires before { AllByRecursion IsItem items }
     requires item { IsItem it }
