@@ -1,5 +1,5 @@
 //! Prints C trees: the header and the module that are written for one function of two parameters, `def f(a, b)`, which
-//! gives their sum. The expected text stands in the file `stdout`, written by hand.
+//! gives their sum. The file `stdout` holds what the format asks for, and never what the program wrote.
 #![tactic(auto)]
 
 ghost use Rattle.c_tree.specs.Forms.{IsFile};
