@@ -1,0 +1,7 @@
+use Rattle.std.proofs.Common.{◌≡◌, ◌++◌, take}
+use Rattle.std.specs.List.{flat_map}
+use Rattle.c_tree.specs.Items.{declaration_spelling}
+use Rattle.c_printer.proofs.function.declarations.Given as goal
+
+abbrev pub invariant-loop-it : goal.invariant-loop-it
+invariant-loop-it l = l.out ≡ l.initial.out ++ flat_map declaration_spelling (take l.it-index l.all)

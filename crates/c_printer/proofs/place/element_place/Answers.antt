@@ -1,0 +1,5 @@
+use Rattle.c_printer.proofs.Joins.{behind}
+use Rattle.c_printer.proofs.place.element_place.Goals as goal
+
+pub returns : goal.returns
+returns c = behind _ c.args.out c.in_ok-text.field-0 _ _ c.in_ok-text.ensures (behind _ c.in_ok-text.field-0 c.in_ok-out.out _ _ c.in_ok-out.ensures (behind _ c.in_ok-out.out c.in_ok-text-2.field-0 _ _ c.in_ok-text-2.ensures (behind _ c.in_ok-text-2.field-0 c.in_ok-out-2.out _ _ c.in_ok-out-2.ensures (behind _ c.in_ok-out-2.out c.in_ok-text-3.field-0 _ _ c.in_ok-text-3.ensures (behind _ c.in_ok-text-3.field-0 c.in_ok-out-3.out _ _ c.in_ok-out-3.ensures c.text-4.ensures)))))

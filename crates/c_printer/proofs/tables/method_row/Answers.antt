@@ -1,0 +1,5 @@
+use Rattle.c_printer.proofs.Joins.{behind}
+use Rattle.c_printer.proofs.tables.method_row.Goals as goal
+
+pub returns : goal.returns
+returns c = rw c.as_slice.ensures at (behind _ c.args.out c.in_ok-indent.field-0 _ _ c.in_ok-indent.ensures (behind _ c.in_ok-indent.field-0 c.in_ok-open_brace.field-0 _ _ c.in_ok-open_brace.ensures (behind _ c.in_ok-open_brace.field-0 c.in_ok-out.out _ _ c.in_ok-out.ensures (behind _ c.in_ok-out.out c.in_ok-text.field-0 _ _ c.in_ok-text.ensures (behind _ c.in_ok-text.field-0 c.in_ok-out-2.out _ _ c.in_ok-out-2.ensures c.text-2.ensures)))))

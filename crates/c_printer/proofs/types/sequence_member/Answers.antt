@@ -1,0 +1,5 @@
+use Rattle.c_printer.proofs.Joins.{behind}
+use Rattle.c_printer.proofs.types.sequence_member.Goals as goal
+
+pub returns : goal.returns
+returns c = behind _ c.args.out c.in_ok-text.field-0 _ _ c.in_ok-text.ensures (behind _ c.in_ok-text.field-0 c.in_ok-points.field-0 _ _ c.in_ok-points.ensures c.numbered.ensures)

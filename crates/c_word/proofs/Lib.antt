@@ -1,0 +1,5 @@
+mod Callees
+mod Halves
+mod KeywordRows
+mod Once
+mod Parts
