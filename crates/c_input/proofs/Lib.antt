@@ -1,0 +1,5 @@
+pub mod Spelled
+pub mod Strings
+pub mod Words
+pub mod Sides
+pub mod Fixed
