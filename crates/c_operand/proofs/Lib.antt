@@ -1,0 +1,4 @@
+pub mod Commas
+pub mod Fixed
+pub mod Operators
+pub mod Opens
