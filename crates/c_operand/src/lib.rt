@@ -2,5 +2,7 @@
 #![tactic(auto)]
 
 mod kinds;
+mod operators;
 
 pub use kinds::{result_type, types};
+pub use operators::operator;
