@@ -1,14 +1,17 @@
 -- Lists with commas between their items, read item by item up to `)`.
-use Rattle.std.proofs.Common.{◌≡◌, ⊥, ⊤, tt, List, [], ◌∷◌, ◌++◌, Option, Some, None, refl, sym, ap, ◌∙◌, arith, ◌⊎◌, inl, inr, subst}
+use Rattle.std.proofs.Common.{◌≡◌, List, [], ◌∷◌, ◌++◌, Option, Some, None, refl, sym, ap, ◌∙◌, arith, ◌⊎◌, inl, inr, subst}
 use Rattle.std.specs.Prelude.{◌≢◌}
 use Rattle.std.specs.List.{flat_map, AllByRecursion}
 use Rattle.std.proofs.lemmas.Grind.{common_steps, flat_map-append}
 use Rattle.c_state.specs.CTokens.{CToken, sign}
 use Rattle.c_tree.specs.Names.{listed}
-use Rattle.c_operand.specs.Listed.{AreFilled, ReadsListed}
+use Rattle.c_input.specs.Reads.{ReadsEvery}
+use Rattle.c_input.proofs.Rows.{same_left}
+use Rattle.c_operand.specs.Listed.{AreFilled}
+use Rattle.c_operand.proofs.Tokens.{firsts_differ}
 
 -- what stands behind an item
-pub IsBehind : List CToken → Type 0
+abbrev pub IsBehind : List CToken → Type 0
 IsBehind [] = ⊥
 IsBehind (t ∷ ts) = (t ≡ sign ",") ⊎ (t ≡ sign ")")
 
@@ -28,15 +31,11 @@ pub record AreListed {A : Type 0} (form : A → Type 0) (spell : A → List CTok
   pub parts : start ≡ listed spell read ++ rest
   pub every : (whole : List A) (tail : List CToken) → AreFilled form whole → start ≡ listed spell whole ++ (sign ")" ∷ tail) → Remains form spell read rest whole tail
 
-append_assoc : {A : Type 0} (xs ys zs : List A) → (xs ++ ys) ++ zs ≡ xs ++ (ys ++ zs)
+pub append_assoc : {A : Type 0} (xs ys zs : List A) → (xs ++ ys) ++ zs ≡ xs ++ (ys ++ zs)
 append_assoc xs ys zs = grind (arith, common_steps)
 
 append_nil : {A : Type 0} (xs : List A) → xs ++ [] ≡ xs
 append_nil xs = grind (arith, common_steps)
-
-same_left : {A : Type 0} (xs ys zs : List A) → xs ++ ys ≡ xs ++ zs → ys ≡ zs
-same_left [] ys zs e = e
-same_left (x ∷ xs) ys zs e = same_left xs ys zs cc
 
 is_behind : {A : Type 0} (spell : A → List CToken) (more : List A) (tail : List CToken) → IsBehind (behind spell more ++ (sign ")" ∷ tail))
 is_behind spell [] tail = inr refl
@@ -45,6 +44,9 @@ is_behind spell (x ∷ more) tail = inl refl
 -- what is said of the reader of one item
 abbrev pub ReadsItem : {A : Type 0} → (A → Type 0) → (A → List CToken) → List CToken → Option A → Type 0
 ReadsItem {A} form spell old result = (x : A) (tail : List CToken) → form x → IsBehind tail → old ≡ spell x ++ tail → result ≡ Some x
+
+pub item_every : {A : Type 0} (form : A → Type 0) (spell : A → List CToken) (old : List CToken) (r : Option A) → ReadsEvery form spell old r → ReadsItem form spell old r
+item_every form spell old r every = λ x tail h b e. every x tail h e
 
 pub listed_first : {A : Type 0} (form : A → Type 0) (spell : A → List CToken) (start rest : List CToken) (x : A) (r : Option A)
     → r ≡ Some x → form x → start ≡ spell x ++ rest → ReadsItem form spell start r → AreListed form spell start (x ∷ []) rest
@@ -97,7 +99,7 @@ listed_step {A} form spell start read rest between new x r h comma e k is every 
         ∙ (sym (append_assoc (listed spell read) (sign "," ∷ spell x) new) ∙ ap (λ (t : List CToken). t ++ new) (sym (listed_more form spell read x h.within))))
 
     left : (whole more : List A) (tail : List CToken) → AllByRecursion form more → whole ≡ read ++ more → rest ≡ behind spell more ++ (sign ")" ∷ tail) → Remains form spell (read ++ x ∷ []) new whole tail
-    left whole [] tail w i z = cc
+    left whole [] tail w i z = absurd (firsts_differ (sign ",") (sign ")") between tail refl (sym comma ∙ z))
     left whole (y ∷ ys) tail w i z =
         let after : List CToken = behind spell ys ++ (sign ")" ∷ tail) in
         let next : between ≡ (spell y ++ behind spell ys) ++ (sign ")" ∷ tail) = cc in
@@ -118,7 +120,7 @@ pub listed_lost : {A : Type 0} (form : A → Type 0) (spell : A → List CToken)
 listed_lost {A} form spell start read rest between r h comma e every whole tail w k = let m = h.every whole tail w k in left m.more m.within m.spelled
   where
     left : (more : List A) → AllByRecursion form more → rest ≡ behind spell more ++ (sign ")" ∷ tail) → ⊥
-    left [] w z = cc
+    left [] w z = firsts_differ (sign ",") (sign ")") between tail refl (sym comma ∙ z)
     left (y ∷ ys) w z =
         let after : List CToken = behind spell ys ++ (sign ")" ∷ tail) in
         let next : between ≡ (spell y ++ behind spell ys) ++ (sign ")" ∷ tail) = cc in

@@ -1,9 +1,9 @@
 -- How operands begin.
-use Rattle.std.proofs.Common.{◌≡◌, ℕ, suc, ◌<◌, ◌≤◌, ◌^◌, Bool, true, false, ◌⊎◌, inl, inr, List, [], ◌∷◌, ◌++◌, Option, Some, refl, sym, ap, ◌∙◌, arith, subst}
+use Rattle.std.proofs.Common.{◌≡◌, ℕ, suc, ◌+◌, ◌%◌, ◌<◌, ◌≤◌, ◌^◌, Bool, true, false, ◌⊎◌, inl, inr, List, [], ◌∷◌, ◌++◌, Option, Some, refl, sym, ap, ◌∙◌, arith, subst}
 use Rattle.std.specs.Prelude.{pos, negsuc, ◌≤ℤ◌, decimal, codes, slice_get, nat_lt}
 use Rattle.std.proofs.lemmas.Grind.{common_steps}
 use Rattle.std.proofs.lemmas.Int.{ints}
-use Rattle.std.proofs.lemmas.Fmt.{decimal_nonempty}
+use Rattle.std.proofs.lemmas.Fmt.{decimal_by_steps}
 use Rattle.std.specs.Char.{is_ascii_digit}
 use Rattle.c_state.specs.CTokens.{CToken, Word, word, sign, c_tokens, tokens_from}
 use Rattle.c_state.specs.declared.space.Exception.{Exception}
@@ -18,14 +18,12 @@ use Rattle.c_tree.specs.declared.value.CValue.TheVariants as value
 use Rattle.c_tree.specs.declared.value.Literal.{Literal}
 use Rattle.c_tree.specs.declared.value.Literal.TheVariants as literal
 use Rattle.c_tree.specs.Forms.{IsLiteral, IsValue, IsVariable}
-use Rattle.c_tree.specs.Names.{text, variable_name, fixed_name}
+use Rattle.c_tree.specs.Names.{text, name_token, variable_name, fixed_name}
 use Rattle.c_tree.specs.Values.{exception_name, literal_spelling, value_spelling}
 use Rattle.c_input.specs.Addresses.{IsAddress}
 use Rattle.c_input.specs.Literals.{IsNegative, behind_minus}
 use Rattle.c_input.proofs.Fixed.{cast_spelled, definition_spelled}
 use Rattle.c_input.proofs.Sides.{negative_spelled}
-use Rattle.c_word.specs.Numbers.{AreDigits}
-use Rattle.c_word.proofs.Halves.{decimal_digits}
 use Rattle.c_operand.specs.Values.{begins_number, IsBracketed, IsObject, IsPlainLiteral, IsWorded}
 
 -- ---- words
@@ -123,12 +121,27 @@ object_first (value.ClassObject n) h = absurd h
 object_first (value.TypeAddress n) h = absurd h
 object_first value.Definition h = absurd h
 
-digit_first : (front letters : List ℕ) → AreDigits front → (front ≡ [] → ⊥) → begins_number (front ++ letters) ≡ true
-digit_first [] letters h some = absurd (some refl)
-digit_first (b ∷ front) letters h some = grind (arith, common_steps, h.0)
+-- digits, of which there is one
+abbrev AreDigits : List ℕ → Type 0
+AreDigits [] = ⊥
+AreDigits (first ∷ more) = (48 ≤ first) × (first ≤ 57)
+
+more_digits : (xs ys : List ℕ) → AreDigits xs → AreDigits (xs ++ ys)
+more_digits [] ys h = absurd h
+more_digits (x ∷ xs) ys h = h
+
+decimal_digits : (n : ℕ) → n < 2 ^ 64 → AreDigits (decimal n)
+decimal_digits n h = decimal_by_steps (λ n ds. AreDigits ds) (λ n small. (omega arith, omega arith)) (λ n ds big front. more_digits ds ((48 + n % 10) ∷ []) front) n h
+
+is_digit : (b : ℕ) → 48 ≤ b → b ≤ 57 → is_ascii_digit b ≡ true
+is_digit b h k = grind (arith, common_steps)
+
+digit_first : (front letters : List ℕ) → AreDigits front → begins_number (front ++ letters) ≡ true
+digit_first [] letters h = absurd h
+digit_first (b ∷ front) letters h = is_digit b h.0 h.1
 
 number_first : (n : ℕ) (letters : List ℕ) → n < 2 ^ 64 → begins_number (decimal n ++ letters) ≡ true
-number_first n letters small = digit_first (decimal n) letters (decimal_digits n small) (λ e. decimal_nonempty n e)
+number_first n letters small = digit_first (decimal n) letters (decimal_digits n small)
 
 below : (n m : ℕ) → pos n ≤ℤ pos m → m < 2 ^ 64 → n < 2 ^ 64
 below n m h k = omega (arith, ints)
@@ -197,7 +210,7 @@ address_first (value.ClassObject n) rest h = absurd h
 
 pub bracketed_first : (v : CValue) (rest : List CToken) → IsBracketed v → slice_get (value_spelling v ++ rest) 0 ≡ Some (sign "(")
 bracketed_first (value.Literal l) rest h = ap (λ (t : List CToken). slice_get (t ++ rest) 0) (negative_spelled l h.1)
-bracketed_first (value.ClassObject n) rest h = ap (λ (t : List CToken). slice_get ((t ++ _) ++ rest) 0) cast_spelled
+bracketed_first (value.ClassObject n) rest h = ap (λ (t : List CToken). slice_get ((t ++ (name_token "cyc_ty_" n ∷ [])) ++ rest) 0) cast_spelled
 bracketed_first (value.Variable x) rest h = absurd h
 bracketed_first (value.Argument j) rest h = absurd h
 bracketed_first value.Null rest h = absurd h

@@ -1,5 +1,5 @@
 -- Lists with commas between their items, up to `)`. The project's own.
-use Rattle.std.specs.Prelude.{◌≡◌, ⊥, ⊤, List, [], ◌∷◌, ◌++◌, Option, Some}
+use Rattle.std.specs.Prelude.{◌≡◌, List, [], ◌∷◌, ◌++◌, Option, Some}
 use Rattle.std.specs.List.{AllByRecursion}
 use Rattle.c_state.specs.CTokens.{CToken, sign}
 use Rattle.c_tree.specs.Names.{listed}

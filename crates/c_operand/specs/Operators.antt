@@ -1,5 +1,5 @@
 -- Three sorts of operators between two operands (ISO/IEC 9899:2011 6.5.5 to 6.5.12).
-use Rattle.std.specs.Prelude.{⊥, ⊤}
+use Rattle.std.specs.Prelude.{⊤}
 use Rattle.c_tree.specs.declared.statement.BinaryOp.{BinaryOp}
 use Rattle.c_tree.specs.declared.statement.BinaryOp.TheVariants as op
 

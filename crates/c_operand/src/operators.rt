@@ -80,7 +80,7 @@ fn comparison(input: &mut Input) -> Option<BinaryOp>
 }
 
 /// Reads an operator between two operands.
-#[tactic(auto, using(crate::proofs::Operators::same_op, crate::proofs::Operators::sorts))]
+#[tactic(auto, using(crate::proofs::Signs::same_op, crate::proofs::Signs::sorts))]
 pub fn operator(input: &mut Input) -> Option<BinaryOp>
     ensures some { Reads (λ _. ⊤) (λ o. op_spelling o ∷ []) input.old result input.new }
     ensures every { ReadsEvery (λ _. ⊤) (λ o. op_spelling o ∷ []) input.old result }

@@ -31,6 +31,7 @@ op_of (Sign letters) =
 op_of _ = None
 
 told : (o : BinaryOp) → op_of (op_spelling o) ≡ Some o
+unfolding op_of
 told op.Add = refl
 told op.Subtract = refl
 told op.Multiply = refl
