@@ -1,4 +1,4 @@
-ghost use Rattle.std.specs.Prelude.{◌≡◌, ◌↔◌, ◌++◌, ◌∷◌, [], List, ℕ, Bool, true, Some, slice_get, IsSomeAnd, IfOk, IfSome, MatchOption, decimal, ⊤};
+ghost use Rattle.std.specs.Prelude.{◌≡◌, ◌↔◌, ◌++◌, ◌∷◌, [], List, ℕ, Bool, true, Some, slice_get, IsSomeAnd, IfOk, IfSome, MatchOption, decimal, length};
 ghost use Rattle.c_state.specs.CTokens.{CToken, Word, sign};
 ghost use Rattle.c_cut.specs.Shown.{item_shown};
 ghost use Rattle.c_tree.specs.Forms.{IsNumber, IsNumbered, IsString, IsVariable};
@@ -39,6 +39,13 @@ impl<'a> Input<'a> {
         ensures { result ≡ item_shown tokens.now }
     {
         Input { rest: tokens }
+    }
+
+    /// How many tokens are left.
+    pub fn len(&self) -> usize
+        ensures { result ≡ length self.now }
+    {
+        self.rest.len()
     }
 
     /// Whether no token is left.
