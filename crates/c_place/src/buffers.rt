@@ -12,10 +12,7 @@ fn told_buffer(input: &mut Input) -> Option<Variable>
     ensures some { Finds IsVariable buffer_tokens input.old result input.new }
     ensures every { ReadsEvery IsVariable buffer_tokens input.old result }
 {
-    if !input.fixed(&[
-        Piece::Word(b"PyMemoryView_GET_BUFFER"),
-        Piece::Sign(b"("),
-    ]) {
+    if !input.fixed(&[Piece::Word(b"PyMemoryView_GET_BUFFER"), Piece::Sign(b"(")]) {
         return None;
     }
     let object = input.variable()?;

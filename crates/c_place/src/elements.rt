@@ -23,19 +23,11 @@ fn told(input: &mut Input) -> Option<ElementPlace>
         return None;
     }
     let kind = kind(input)?;
-    if !input.fixed(&[
-        Piece::Sign(b"*"),
-        Piece::Sign(b")"),
-        Piece::Sign(b"("),
-    ]) {
+    if !input.fixed(&[Piece::Sign(b"*"), Piece::Sign(b")"), Piece::Sign(b"(")]) {
         return None;
     }
     let view = input.variable()?;
-    if !input.fixed(&[
-        Piece::Sign(b"."),
-        Piece::Word(b"buf"),
-        Piece::Sign(b"+"),
-    ]) {
+    if !input.fixed(&[Piece::Sign(b"."), Piece::Word(b"buf"), Piece::Sign(b"+")]) {
         return None;
     }
     let offset = input.variable()?;

@@ -11,11 +11,7 @@ fn told(input: &mut Input) -> Option<FieldPlace>
     ensures some { Finds IsFieldPlace field_tokens input.old result input.new }
     ensures every { ReadsEvery IsFieldPlace field_tokens input.old result }
 {
-    if !input.fixed(&[
-        Piece::Sign(b"("),
-        Piece::Sign(b"("),
-        Piece::Word(b"struct"),
-    ]) {
+    if !input.fixed(&[Piece::Sign(b"("), Piece::Sign(b"("), Piece::Word(b"struct")]) {
         return None;
     }
     let class = input.numbered(b"cyc_o_")?;

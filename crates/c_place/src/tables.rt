@@ -31,11 +31,7 @@ fn told_table(input: &mut Input) -> Option<Variable>
         return None;
     }
     let object = input.variable()?;
-    if input.fixed(&[
-        Piece::Sign(b")"),
-        Piece::Sign(b"->"),
-        Piece::Word(b"vt"),
-    ]) {
+    if input.fixed(&[Piece::Sign(b")"), Piece::Sign(b"->"), Piece::Word(b"vt")]) {
         Some(object)
     } else {
         None
