@@ -12,8 +12,8 @@ use Rattle.c_tree.specs.Items.{fields_spelling}
 use Rattle.c_input.specs.Reads.{ReadsEvery}
 use Rattle.c_input.specs.Types.{type_tokens}
 use Rattle.c_input.proofs.Spelled.{spelled}
-use Rattle.c_table.specs.Parts.{field_tokens}
-use Rattle.c_table.specs.Tables.{end_tokens, fields_tokens}
+use Rattle.c_table.specs.Parts.{end_tokens, field_tokens}
+use Rattle.c_table.specs.Tables.{fields_tokens}
 
 -- what is left of a whole list of fields, of which these were read
 pub record Remain (read : List CType) (rest behind : List CToken) (whole : List CType) : Type 0 where
@@ -84,10 +84,10 @@ fields_step start read rest after kind n h number some e every = record { parts 
         ∙ sym (more_fields 0 read kind after))
 
     left : (whole more : List CType) (behind : List CToken) → whole ≡ read ++ more → rest ≡ fields_spelling (length read) more ++ (end_tokens ++ behind) → Remain (read ++ kind ∷ []) after behind whole
-    left whole [] behind is spelled = absurd (some behind spelled)
-    left whole (y ∷ ys) behind is spelled =
+    left whole [] behind is told = absurd (some behind told)
+    left whole (y ∷ ys) behind is told =
         let tail : List CToken = fields_spelling (suc (length read)) ys ++ (end_tokens ++ behind) in
-        let at : rest ≡ field_tokens (length read) y ++ tail = spelled ∙ first_field (length read) y ys (end_tokens ++ behind) in
+        let at : rest ≡ field_tokens (length read) y ++ tail = told ∙ first_field (length read) y ys (end_tokens ++ behind) in
         let found : Some kind ≡ Some y = every y tail tt (at ∙ ap (λ k. field_tokens k y ++ tail) (sym number)) in
         let same : y ≡ kind = cc in
         let after_is : after ≡ tail = same_left (field_tokens (length read) kind) after tail (sym at_number ∙ (at ∙ ap (λ z. field_tokens (length read) z ++ tail) same)) in
@@ -107,10 +107,10 @@ pub no_field : (start : List CToken) (read : List CType) (rest : List CToken) (n
 no_field start read rest n found h number none some every whole behind k = let r = h.every whole behind k in go r.more r.spelled
   where
     go : (more : List CType) → rest ≡ fields_spelling (length read) more ++ (end_tokens ++ behind) → ⊥
-    go [] spelled = some behind spelled
-    go (y ∷ ys) spelled =
+    go [] told = some behind told
+    go (y ∷ ys) told =
         let tail : List CToken = fields_spelling (suc (length read)) ys ++ (end_tokens ++ behind) in
-        let missed : found ≡ Some y = every y tail tt (spelled ∙ (first_field (length read) y ys (end_tokens ++ behind) ∙ ap (λ k. field_tokens k y ++ tail) (sym number))) in
+        let missed : found ≡ Some y = every y tail tt (told ∙ (first_field (length read) y ys (end_tokens ++ behind) ∙ ap (λ k. field_tokens k y ++ tail) (sym number))) in
         cc
 
 -- where there is one field more than numbers
@@ -119,8 +119,8 @@ pub too_many : (start : List CToken) (read : List CType) (rest : List CToken) �
 too_many start read rest h some whole behind k = let r = h.every whole behind k in go r.more r.is r.spelled
   where
     go : (more : List CType) → whole ≡ read ++ more → rest ≡ fields_spelling (length read) more ++ (end_tokens ++ behind) → length read < length whole
-    go [] is spelled = absurd (some behind spelled)
-    go (y ∷ ys) is spelled = omega (arith, length-append read (y ∷ ys), ap length is)
+    go [] is told = absurd (some behind told)
+    go (y ∷ ys) is told = omega (arith, length-append read (y ∷ ys), ap length is)
 
 no_end : (t : CType) (more rest : List CToken) → type_tokens t ++ more ≡ end_tokens ++ rest → ⊥
 no_end type.SignedChar more rest e = cc
@@ -149,13 +149,10 @@ fields_end start read rest new h e whole behind k = let r = h.every whole behind
     append_nil xs = grind (arith, common_steps)
 
     go : (more : List CType) → whole ≡ read ++ more → rest ≡ fields_spelling (length read) more ++ (end_tokens ++ behind) → read ≡ whole
-    go [] is spelled = sym (is ∙ append_nil read)
-    go (y ∷ ys) is spelled =
+    go [] is told = sym (is ∙ append_nil read)
+    go (y ∷ ys) is told =
         let tail : List CToken = letter_token "f" (length read) ∷ sign ";" ∷ [] in
         let more : List CToken = fields_spelling (suc (length read)) ys ++ (end_tokens ++ behind) in
         absurd (no_end y (tail ++ more) new
-        (ap (λ (t : List CToken). t ++ (tail ++ more)) (sym (spelled_type y))
-        ∙ (sym (assoc (type_spelling y) tail more) ∙ (sym (first_field (length read) y ys (end_tokens ++ behind)) ∙ (sym spelled ∙ e)))))
-
-    spelled_type : (t : CType) → type_spelling t ≡ type_tokens t
-    spelled_type t = spelled t
+        (ap (λ (t : List CToken). t ++ (tail ++ more)) (sym (spelled y))
+        ∙ (sym (assoc (type_spelling y) tail more) ∙ (sym (first_field (length read) y ys (end_tokens ++ behind)) ∙ (sym told ∙ e)))))

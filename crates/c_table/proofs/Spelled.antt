@@ -16,8 +16,8 @@ use Rattle.c_tree.specs.declared.name.TableName.{TableName}
 use Rattle.c_tree.specs.declared.value.CType.{CType}
 use Rattle.c_tree.specs.Names.{text}
 use Rattle.c_tree.specs.Items.{base_spelling, fields_spelling, item_spelling, method_spelling, property_spelling, setter_or_null, static_or}
-use Rattle.c_table.specs.Parts.{base_tokens, function_cast, method_end, method_tokens, property_end, property_tokens, setter_tokens}
-use Rattle.c_table.specs.Tables.{end_tokens, item_tokens, methods_end, properties_end}
+use Rattle.c_table.specs.Parts.{base_tokens, end_tokens, function_cast, method_end, method_tokens, property_end, property_tokens, setter_tokens}
+use Rattle.c_table.specs.Tables.{item_tokens, methods_end, properties_end}
 
 same_flat_map : {A : Type 0} (f g : A → List CToken) (xs : List A) → ((x : A) → f x ≡ g x) → flat_map f xs ≡ flat_map g xs
 same_flat_map f g [] h = refl

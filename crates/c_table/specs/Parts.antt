@@ -75,7 +75,11 @@ assigned name = sign "," ∷ dotted name
 abbrev pub assigned_address : List ℕ → List CToken
 assigned_address name = sign "," ∷ sign "." ∷ Word name ∷ sign "=" ∷ sign "&" ∷ []
 
--- two members, one of which may be missing, with a comma between them where both are there
+-- what ends braces and the item
+abbrev pub end_tokens : List CToken
+end_tokens = sign "}" ∷ sign ";" ∷ []
+
+-- one or two members, with a comma between them where both are there, and the end of the braces
 abbrev pub pair_tokens : List ℕ → List ℕ → List ℕ → List ℕ → Option Numbered → Option Numbered → List CToken
-pair_tokens first letters second others None b = member_tokens (dotted second) others b
-pair_tokens first letters second others (Some n) b = member_tokens (dotted first) letters (Some n) ++ member_tokens (assigned second) others b
+pair_tokens first letters second others None b = member_tokens (dotted second) others b ++ end_tokens
+pair_tokens first letters second others (Some n) b = member_tokens (dotted first) letters (Some n) ++ (member_tokens (assigned second) others b ++ end_tokens)

@@ -15,13 +15,9 @@ use Rattle.c_tree.specs.Names.{methods_name, name_token}
 use Rattle.c_tree.specs.Values.{string}
 use Rattle.c_table.specs.declared.kinds.Functions.{Functions}
 use Rattle.c_table.specs.declared.kinds.Tables.{Tables}
-use Rattle.c_table.specs.Parts.{assigned, assigned_address, base_tokens, member_tokens, method_tokens, pair_tokens, property_tokens, IsMethod}
+use Rattle.c_table.specs.Parts.{assigned, assigned_address, base_tokens, end_tokens, member_tokens, method_tokens, pair_tokens, property_tokens, IsMethod}
 
 -- ---- the parts
-
--- what ends braces and the item
-abbrev pub end_tokens : List CToken
-end_tokens = sign "}" ∷ sign ";" ∷ []
 
 -- fields, with the end of their struct
 abbrev pub fields_tokens : List CType → List CToken
@@ -87,10 +83,10 @@ item_tokens (item.Properties is_static n rows) =
     word "PyGetSetDef" ∷ name_token "cyc_gs_" n ∷ sign "[" ∷ sign "]" ∷ sign "=" ∷ sign "{" ∷ (flat_map property_tokens rows ++ properties_end)
 item_tokens (item.Sequence is_static n len contains) =
     word "PySequenceMethods" ∷ name_token "cyc_sq_" n ∷ sign "=" ∷ sign "{"
-    ∷ (pair_tokens (codes "sq_length") (codes "cyc_len_") (codes "sq_contains") (codes "cyc_has_") len contains ++ end_tokens)
+    ∷ pair_tokens (codes "sq_length") (codes "cyc_len_") (codes "sq_contains") (codes "cyc_has_") len contains
 item_tokens (item.Mapping is_static n len subscript) =
     word "PyMappingMethods" ∷ name_token "cyc_mp_" n ∷ sign "=" ∷ sign "{"
-    ∷ (pair_tokens (codes "mp_length") (codes "cyc_len_") (codes "mp_subscript") (codes "cyc_item_") len subscript ++ end_tokens)
+    ∷ pair_tokens (codes "mp_length") (codes "cyc_len_") (codes "mp_subscript") (codes "cyc_item_") len subscript
 item_tokens (item.Type is_static t) =
     named_tokens t.class t.name ++ (sized_tokens t.size ++ (functions_tokens (functions_of t) ++ tables_tokens (tables_of t)))
 item_tokens (item.ModuleDefinition is_static name) =

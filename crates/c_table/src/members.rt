@@ -2,10 +2,10 @@
 ghost use Rattle.std.specs.Prelude.{◌≡◌, ◌≢◌, ◌++◌, ◌∷◌, [], List, Option, Some};
 ghost use Rattle.c_state.specs.CTokens.{CToken};
 ghost use Rattle.c_tree.specs.declared.name.Numbered.{Numbered as NumberedValue};
-ghost use Rattle.c_tree.specs.Forms.{AreMembers, IsMember};
+ghost use Rattle.c_tree.specs.Forms.{AreMembers, IsMember, IsNumbered};
 ghost use Rattle.c_input.specs.Reads.{pieces_shown, Finds, ReadsEvery};
-ghost use Rattle.c_table.specs.Parts.{member_tokens, pair_tokens};
-ghost use Rattle.c_table.specs.Tables.{end_tokens, item_tokens, IsMapping, IsSequence};
+ghost use Rattle.c_table.specs.Parts.{assigned, dotted, end_tokens, member_tokens, pair_tokens};
+ghost use Rattle.c_table.specs.Tables.{item_tokens, IsMapping, IsSequence};
 
 use c_input::{Input, Piece};
 use c_tree::{CItem, Numbered};
@@ -29,32 +29,61 @@ struct Named {
     letters: &'static [u8],
 }
 
-// Reads two members of a table, with a comma between them where both are there.
-fn pair(first: Named, second: Named, input: &mut Input) -> Option<(Option<Numbered>, Option<Numbered>)>
-    ensures some { Finds (λ r. AreMembers r.0 r.1) (λ r. pair_tokens first.name.now first.letters.now second.name.now second.letters.now r.0 r.1 ++ end_tokens) input.old result input.new }
-    ensures every { first.name.now ≢ second.name.now → ReadsEvery (λ r. AreMembers r.0 r.1) (λ r. pair_tokens first.name.now first.letters.now second.name.now second.letters.now r.0 r.1 ++ end_tokens) input.old result }
+// Reads a member that stands alone, and the end of the braces.
+fn only(member: Named, input: &mut Input) -> Option<Numbered>
+    ensures some { Finds IsNumbered (λ n. member_tokens (dotted member.name.now) member.letters.now (Some n) ++ end_tokens) input.old result input.new }
+    ensures every { ReadsEvery IsNumbered (λ n. member_tokens (dotted member.name.now) member.letters.now (Some n) ++ end_tokens) input.old result }
+{
+    if !input.fixed(&[Piece::Sign(b"."), Piece::Word(member.name), Piece::Sign(b"=")]) {
+        return None;
+    }
+    let class = input.numbered(member.letters)?;
+    if input.fixed(&[Piece::Sign(b"}"), Piece::Sign(b";")]) {
+        Some(class)
+    } else {
+        None
+    }
+}
+
+// Reads a member behind another one, where it is there, and the end of the braces.
+fn last(named: Named, input: &mut Input) -> Option<Option<Numbered>>
+    ensures some { Finds IsMember (λ m. member_tokens (assigned named.name.now) named.letters.now m ++ end_tokens) input.old result input.new }
+    ensures every { ReadsEvery IsMember (λ m. member_tokens (assigned named.name.now) named.letters.now m ++ end_tokens) input.old result }
+{
+    let before = [
+        Piece::Sign(b","),
+        Piece::Sign(b"."),
+        Piece::Word(named.name),
+        Piece::Sign(b"="),
+    ];
+    let found = member(&before, named.letters, input)?;
+    if input.fixed(&[Piece::Sign(b"}"), Piece::Sign(b";")]) {
+        Some(found)
+    } else {
+        None
+    }
+}
+
+// Reads one or two members of different names, with a comma between them where both are there.
+fn pair(
+    first: Named,
+    second: Named,
+    input: &mut Input,
+) -> Option<(Option<Numbered>, Option<Numbered>)>
+    ensures some { Finds (λ r. AreMembers r.0 r.1) (λ r. pair_tokens first.name.now first.letters.now second.name.now second.letters.now r.0 r.1) input.old result input.new }
+    ensures every { first.name.now ≢ second.name.now → ReadsEvery (λ r. AreMembers r.0 r.1) (λ r. pair_tokens first.name.now first.letters.now second.name.now second.letters.now r.0 r.1) input.old result }
 {
     let dotted = [Piece::Sign(b"."), Piece::Word(first.name), Piece::Sign(b"=")];
     let one = member(&dotted, first.letters, input)?;
-    let two = match one {
-        Some(_) => {
-            let assigned = [
-                Piece::Sign(b","),
-                Piece::Sign(b"."),
-                Piece::Word(second.name),
-                Piece::Sign(b"="),
-            ];
-            member(&assigned, second.letters, input)?
+    match one {
+        Some(class) => {
+            let two = last(second, input)?;
+            Some((Some(class), two))
         }
         None => {
-            let dotted = [Piece::Sign(b"."), Piece::Word(second.name), Piece::Sign(b"=")];
-            Some(member(&dotted, second.letters, input)??)
+            let two = only(second, input)?;
+            Some((None, Some(two)))
         }
-    };
-    if input.fixed(&[Piece::Sign(b"}"), Piece::Sign(b";")]) {
-        Some((one, two))
-    } else {
-        None
     }
 }
 
