@@ -95,15 +95,23 @@ pub record IsAll {A : Type 0} (read : List A) (rest : List CToken) (whole : List
   pub same : read ≡ whole
   pub left : rest ≡ after
 
+-- no item, behind which further items and an end stand, begins where the rest is an end
+pub read_end_within : {A : Type 0} (form : A → Type 0) (spell : A → List CToken) (stops : List CToken → Type 0) (start : List CToken) (read : List A) (rest : List CToken)
+    → IsRead form spell stops start read rest
+    → ((y : A) (more : List A) (after : List CToken) → form y → AllByRecursion form more → stops after → rest ≡ spell y ++ (flat_map spell more ++ after) → ⊥)
+    → (whole : List A) (after : List CToken) → AllByRecursion form whole → stops after → start ≡ flat_map spell whole ++ after → IsAll read rest whole after
+read_end_within {A} form spell stops start read rest h none whole after f s e = let r = h.every whole after f s e in go r.more r.within r.is r.spelled
+  where
+    go : (more : List A) → AllByRecursion form more → whole ≡ read ++ more → rest ≡ flat_map spell more ++ after → IsAll read rest whole after
+    go [] f is e = record { same = sym (is ∙ append_nil read); left = e }
+    go (y ∷ more) f is e = absurd (none y more after f.0 f.1 s (e ∙ append_assoc (spell y) (flat_map spell more) after))
+
 -- no item begins where the rest is an end
 pub read_end : {A : Type 0} (form : A → Type 0) (spell : A → List CToken) (stops : List CToken → Type 0) (start : List CToken) (read : List A) (rest : List CToken)
     → IsRead form spell stops start read rest → ((y : A) (ys : List CToken) → form y → rest ≡ spell y ++ ys → ⊥)
     → (whole : List A) (after : List CToken) → AllByRecursion form whole → stops after → start ≡ flat_map spell whole ++ after → IsAll read rest whole after
-read_end {A} form spell stops start read rest h none whole after f s e = let r = h.every whole after f s e in go r.more r.within r.is r.spelled
-  where
-    go : (more : List A) → AllByRecursion form more → whole ≡ read ++ more → rest ≡ flat_map spell more ++ after → IsAll read rest whole after
-    go [] f is e = record { same = sym (is ∙ append_nil read); left = e }
-    go (y ∷ more) f is e = absurd (none y (flat_map spell more ++ after) f.0 (e ∙ append_assoc (spell y) (flat_map spell more) after))
+read_end form spell stops start read rest h none whole after f s e =
+    read_end_within form spell stops start read rest h (λ y more z fy fm sz ez. none y (flat_map spell more ++ z) fy ez) whole after f s e
 
 filled : (xs : List CToken) → xs ≢ [] → 0 < length xs
 filled [] h = absurd (h refl)
