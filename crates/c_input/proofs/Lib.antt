@@ -3,3 +3,5 @@ pub mod Strings
 pub mod Words
 pub mod Sides
 pub mod Fixed
+pub mod Rows
+pub mod Lists

@@ -1,6 +1,6 @@
 -- What a function that reads C tokens ensures. The project's own.
 use Rattle.std.specs.Prelude.{◌≡◌, ◌≢◌, ◌||◌, ◌+◌, ◌/◌, ◌%◌, ⊤, nat_lt, nat_eq, ℕ, List, [], ◌∷◌, ◌++◌, map, Bool, true, false, Option, Some, None}
-use Rattle.c_state.specs.CTokens.{CToken, Word, Sign}
+use Rattle.c_state.specs.CTokens.{CToken, Word, Sign, Str, Character, HeaderName, LineEnd}
 use Rattle.c_input.specs.declared.piece.Piece.{Piece}
 use Rattle.c_input.specs.declared.piece.Piece.TheVariants as piece
 
@@ -8,6 +8,10 @@ use Rattle.c_input.specs.declared.piece.Piece.TheVariants as piece
 abbrev pub piece_shown : Piece → CToken
 piece_shown (piece.Word letters) = Word letters.now
 piece_shown (piece.Sign letters) = Sign letters.now
+piece_shown (piece.Str letters) = Str letters.now
+piece_shown (piece.Character letters) = Character letters.now
+piece_shown (piece.HeaderName letters) = HeaderName letters.now
+piece_shown piece.LineEnd = LineEnd
 
 abbrev pub pieces_shown : List Piece → List CToken
 pieces_shown pieces = map piece_shown pieces
@@ -16,6 +20,11 @@ pieces_shown pieces = map piece_shown pieces
 abbrev pub Takes : List CToken → List CToken → Bool → List CToken → Type 0
 Takes spelling old true new = old ≡ spelling ++ new
 Takes spelling old false new = (new ≡ old) × ((rest : List CToken) → old ≢ spelling ++ rest)
+
+-- The tokens stood at the front, and what is left stands behind them; or they don't, and nothing is said of what is left.
+abbrev pub Passes : List CToken → List CToken → Bool → List CToken → Type 0
+Passes spelling old true new = old ≡ spelling ++ new
+Passes spelling old false new = (rest : List CToken) → old ≢ spelling ++ rest
 
 -- The value is in form and its spelling stood at the front, and what is left stands behind it; without a value nothing
 -- was taken.

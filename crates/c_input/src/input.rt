@@ -1,4 +1,4 @@
-ghost use Rattle.std.specs.Prelude.{◌≡◌, ◌↔◌, ◌++◌, ◌∷◌, [], List, ℕ, Bool, true, Some, slice_get, IsSomeAnd, IfOk, IfSome, MatchOption, decimal, ⊤};
+ghost use Rattle.std.specs.Prelude.{◌≡◌, ◌↔◌, ◌++◌, ◌∷◌, [], List, ℕ, Bool, true, Some, slice_get, IsSomeAnd, IfOk, IfSome, MatchOption, decimal, length};
 ghost use Rattle.c_state.specs.CTokens.{CToken, Word, sign};
 ghost use Rattle.c_cut.specs.Shown.{item_shown};
 ghost use Rattle.c_tree.specs.Forms.{IsNumber, IsNumbered, IsString, IsVariable};
@@ -41,6 +41,13 @@ impl<'a> Input<'a> {
         Input { rest: tokens }
     }
 
+    /// How many tokens are left.
+    pub fn len(&self) -> usize
+        ensures { result ≡ length self.now }
+    {
+        self.rest.len()
+    }
+
     /// Whether no token is left.
     pub fn is_done(&self) -> bool
         ensures { (result ≡ true) ↔ (self.now ≡ []) }
@@ -80,6 +87,15 @@ impl<'a> Input<'a> {
             [Token::Word(bytes), rest @ ..] => Some((bytes.as_slice(), rest)),
             _ => None,
         }
+    }
+
+    /// The letters of the next token, where it is a word.
+    pub fn next_word(&self) -> Option<&'a [u8]>
+        ensures some { IfSome result (λ r. slice_get self.now 0 ≡ Some (Word r.now)) }
+        ensures every { (letters : List ℕ) (rest : List CToken) → self.now ≡ Word letters ∷ rest → IsSomeAnd result (λ r. r.now ≡ letters) }
+    {
+        let (letters, _) = self.split()?;
+        Some(letters)
     }
 
     /// Takes the next token, where it is a word.

@@ -13,6 +13,6 @@ mod types;
 pub use addresses::{address, class_object};
 pub use input::Input;
 pub use operands::stored;
-pub use piece::Piece;
+pub use piece::{Piece, behind, is_piece};
 pub use signed::literal;
 pub use types::kind;
