@@ -1,3 +1,4 @@
+mod Ends
 mod Fields
 mod Spelled
 mod Steps

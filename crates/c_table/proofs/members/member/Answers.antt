@@ -6,7 +6,8 @@ use Rattle.c_tree.specs.Forms.{IsMember}
 use Rattle.c_word.specs.Numbers.{two_numbers}
 use Rattle.c_input.specs.Reads.{pieces_shown}
 use Rattle.c_table.specs.Parts.{member_tokens}
-use Rattle.c_table.proofs.Steps.{assoc, same_left}
+use Rattle.c_input.proofs.Rows.{same_left}
+use Rattle.c_table.proofs.Steps.{assoc}
 use Rattle.c_table.proofs.members.member.Goals as goal
 
 pub returns-in_err-class-clause-every : goal.returns-in_err-class-clause-every

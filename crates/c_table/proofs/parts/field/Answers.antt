@@ -6,7 +6,7 @@ use Rattle.c_tree.specs.Names.{letter_token}
 use Rattle.c_tree.specs.Values.{type_spelling}
 use Rattle.c_tree.specs.Forms.{IsNumber}
 use Rattle.c_table.specs.Parts.{field_tokens}
-use Rattle.c_table.proofs.Steps.{assoc, next, some_same, IsNext}
+use Rattle.c_table.proofs.Steps.{assoc, next, some_same}
 use Rattle.c_table.proofs.parts.field.Goals as goal
 
 pub returns-in_err-found-clause-every : goal.returns-in_err-found-clause-every

@@ -1,10 +1,12 @@
-use Rattle.std.proofs.Common.{rules, ◌≡◌, ◌++◌, ◌∷◌, [], List, Some, IfOk, ℕ, ◌+◌, ◌-◌, ◌*◌, ◌<◌, ◌≤◌, length, ◌/◌, ◌%◌, Bool, true, false, nat_eq, nat_lt, slice_index_or, slice_set, bit_and, bit_or, Fits, w8, w32, w64, Bor, MutBor}
-use Rattle.c_state.specs.CTokens.{CToken}
-use Rattle.c_tree.specs.Forms.{IsFieldNumber, IsProperty, IsSetter}
-use Rattle.c_input.specs.Reads.{Finds, ReadsEvery, Takes}
-use Rattle.c_table.specs.Parts.{accessor_tokens, function_cast, method_end, method_tokens, property_end, property_tokens, setter_tokens, IsMethod}
+use Rattle.std.proofs.Common.{◌≡◌, ◌∷◌, []}
+use Rattle.c_state.specs.CTokens.{sign}
+use Rattle.c_tree.specs.Forms.{IsString}
+use Rattle.c_tree.specs.Values.{string}
+use Rattle.c_table.proofs.Steps.{behind, next_read}
 use Rattle.c_table.proofs.rows.method.Goals as goal
 
--- src/rows.rt:61:9
 pub returns-then-not-cast-clause-every : goal.returns-then-not-cast-clause-every
-returns-then-not-cast-clause-every c = ?
+returns-then-not-cast-clause-every c = λ x rest form e.
+    let a = behind (sign "{" ∷ []) c.args.input.now c.fixed.new.self _ c.if-not-fixed.ensures e in
+    let k = next_read IsString (λ z. string z ∷ []) c.fixed.new.self c.in_ok-name.field-0 c.string.new.self c.in-Some.name x.name _ c.in-Some.is c.in_ok-name.ensures.some c.in_ok-name.ensures.every form.0 a in
+    absurd (c.if-not-cast.ensures.1 _ k.left)
