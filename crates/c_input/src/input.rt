@@ -89,6 +89,15 @@ impl<'a> Input<'a> {
         }
     }
 
+    /// The letters of the next token, where it is a word.
+    pub fn next_word(&self) -> Option<&'a [u8]>
+        ensures some { IfSome result (λ r. slice_get self.now 0 ≡ Some (Word r.now)) }
+        ensures every { (letters : List ℕ) (rest : List CToken) → self.now ≡ Word letters ∷ rest → IsSomeAnd result (λ r. r.now ≡ letters) }
+    {
+        let (letters, _) = self.split()?;
+        Some(letters)
+    }
+
     /// Takes the next token, where it is a word.
     pub fn word(&mut self) -> Option<&'a [u8]>
         ensures some { MatchOption result (self.new ≡ self.old) (λ r. self.old ≡ Word r.now ∷ self.new) }
