@@ -1,3 +1,4 @@
 pub mod Chain
 pub mod FirstTokens
+pub mod Behind
 pub mod Told

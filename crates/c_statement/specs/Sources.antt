@@ -28,6 +28,10 @@ use Rattle.c_statement.specs.Seen.{sign_at, word_at}
 abbrev pub end : List CToken
 end = sign ";" ∷ []
 
+-- an operand at the end of a statement
+abbrev pub ended_tokens : CValue → List CToken
+ended_tokens k = value_spelling k ++ end
+
 -- ---- calls
 
 abbrev pub IsCall : Call → Type 0

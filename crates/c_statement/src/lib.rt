@@ -2,6 +2,7 @@
 #![tactic(auto)]
 
 mod buffers;
+mod operands;
 mod places;
 mod seen;
 mod source;
