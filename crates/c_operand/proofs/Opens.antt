@@ -1,15 +1,14 @@
 -- How operands begin.
-use Rattle.std.proofs.Common.{◌≡◌, ℕ, suc, ◌+◌, ◌%◌, ◌<◌, ◌≤◌, ◌^◌, Bool, true, false, ◌⊎◌, inl, inr, List, [], ◌∷◌, ◌++◌, Option, Some, refl, sym, ap, ◌∙◌, arith, subst}
-use Rattle.std.specs.Prelude.{pos, negsuc, ◌≤ℤ◌, decimal, codes, slice_get, nat_lt}
+use Rattle.std.proofs.Common.{◌≡◌, ℕ, ◌+◌, ◌%◌, ◌<◌, ◌≤◌, ◌^◌, Bool, true, false, ◌⊎◌, inl, inr, List, [], ◌∷◌, ◌++◌, Option, Some, refl, sym, ap, ◌∙◌, arith}
+use Rattle.std.specs.Prelude.{⊤, pos, negsuc, ◌≤ℤ◌, decimal, codes, slice_get, nat_lt}
 use Rattle.std.proofs.lemmas.Grind.{common_steps}
 use Rattle.std.proofs.lemmas.Int.{ints}
 use Rattle.std.proofs.lemmas.Fmt.{decimal_by_steps}
 use Rattle.std.specs.Char.{is_ascii_digit}
 use Rattle.std.specs.Str.{bytes_eq}
-use Rattle.c_state.specs.CTokens.{CToken, Sign, Word, word, sign, c_tokens, tokens_from}
+use Rattle.c_state.specs.CTokens.{CToken, Character, HeaderName, LineEnd, Other, Sign, Str, Word, word, sign, c_tokens, tokens_from}
 use Rattle.c_state.specs.declared.space.Exception.{Exception}
 use Rattle.c_state.specs.declared.space.Exception.TheVariants as exception
-use Rattle.c_tree.specs.declared.name.FixedParameter.{FixedParameter}
 use Rattle.c_tree.specs.declared.name.FixedParameter.TheVariants as fixed
 use Rattle.c_tree.specs.declared.name.Numbered.{Numbered}
 use Rattle.c_tree.specs.declared.name.Place.TheVariants as place
@@ -19,11 +18,11 @@ use Rattle.c_tree.specs.declared.value.CValue.{CValue}
 use Rattle.c_tree.specs.declared.value.CValue.TheVariants as value
 use Rattle.c_tree.specs.declared.value.Literal.{Literal}
 use Rattle.c_tree.specs.declared.value.Literal.TheVariants as literal
-use Rattle.c_tree.specs.Forms.{IsLiteral, IsValue, IsVariable}
-use Rattle.c_tree.specs.Names.{text, name_token, variable_name, fixed_name}
+use Rattle.c_tree.specs.Forms.{IsLiteral, IsValue}
+use Rattle.c_tree.specs.Names.{name_token, variable_name}
 use Rattle.c_tree.specs.Values.{exception_name, literal_spelling, value_spelling}
 use Rattle.c_input.specs.Addresses.{IsAddress, IsStored}
-use Rattle.c_input.specs.Literals.{IsNegative, behind_minus}
+use Rattle.c_input.specs.Literals.{IsNegative}
 use Rattle.c_input.proofs.Fixed.{cast_spelled, definition_spelled}
 use Rattle.c_input.proofs.Sides.{negative_spelled}
 use Rattle.c_operand.proofs.Tokens.{letters_of, tokens_differ}
@@ -369,3 +368,44 @@ worded_at v rest old letters h e at =
     let f = worded_first v h in
     let front : old ≡ Word f.letters ∷ (f.more ++ rest) = e ∙ ap (λ (t : List CToken). t ++ rest) f.is in
     no_sign f.letters letters (slice_get old 0) (ap (λ (t : List CToken). slice_get t 0) front) at
+
+-- a word or a sign
+abbrev letters_only : CToken → Type 0
+letters_only (Word w) = ⊤
+letters_only (Sign w) = ⊤
+letters_only _ = ⊥
+
+no_string : (t : CToken) (raw : List ℕ) (r : Option CToken) → r ≡ Some t → letters_only t → r ≡ Some (Str raw) → ⊥
+no_string (Word w) raw r e h f = cc
+no_string (Sign w) raw r e h f = cc
+no_string (Str w) raw r e h f = h
+no_string (Character w) raw r e h f = h
+no_string (HeaderName w) raw r e h f = h
+no_string LineEnd raw r e h f = h
+no_string (Other w) raw r e h f = h
+
+-- no operand begins with a string
+pub value_no_string : (v : CValue) (rest old more : List CToken) (raw : List ℕ) → IsValue v → old ≡ value_spelling v ++ rest → old ≡ Str raw ∷ more → ⊥
+value_no_string v rest old more raw form e f = go (sorts v form)
+  where
+    first : slice_get old 0 ≡ Some (Str raw)
+    first = ap (λ (t : List CToken). slice_get t 0) f
+
+    go : IsAddress v ⊎ (IsBracketed v ⊎ IsWorded v) → ⊥
+    go (inl h) = no_string (sign "&") raw (slice_get old 0) (address_at v rest old h e) tt first
+    go (inr (inl h)) = no_string (sign "(") raw (slice_get old 0) (bracketed_at v rest old h e) tt first
+    go (inr (inr h)) =
+        let w = worded_first v h in
+        no_string (Word w.letters) raw (slice_get old 0) (ap (λ (t : List CToken). slice_get t 0) e ∙ ap (λ (t : List CToken). slice_get (t ++ rest) 0) w.is) tt first
+
+-- no operand begins with `)`
+pub value_no_close : (v : CValue) (rest old more : List CToken) → IsValue v → old ≡ value_spelling v ++ rest → old ≡ sign ")" ∷ more → ⊥
+value_no_close v rest old more form e f = go (sorts v form)
+  where
+    first : slice_get old 0 ≡ Some (sign ")")
+    first = ap (λ (t : List CToken). slice_get t 0) f
+
+    go : IsAddress v ⊎ (IsBracketed v ⊎ IsWorded v) → ⊥
+    go (inl h) = two_signs old 0 (sign "&") (sign ")") refl (address_at v rest old h e) first
+    go (inr (inl h)) = two_signs old 0 (sign "(") (sign ")") refl (bracketed_at v rest old h e) first
+    go (inr (inr h)) = worded_at v rest old (codes ")") h e first

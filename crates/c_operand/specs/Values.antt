@@ -1,5 +1,5 @@
 -- Sorts of operands, by how they begin. The project's own profile of C.
-use Rattle.std.specs.Prelude.{⊤, ℕ, List, [], ◌∷◌, Bool, false, pos, negsuc, codes}
+use Rattle.std.specs.Prelude.{⊤, ℕ, List, [], ◌∷◌, Bool, false, negsuc, codes}
 use Rattle.std.specs.Char.{is_ascii_digit}
 use Rattle.c_tree.specs.declared.value.CValue.{CValue}
 use Rattle.c_tree.specs.declared.value.CValue.TheVariants as value

@@ -3,7 +3,6 @@ use Rattle.std.specs.Prelude.{slice_get}
 use Rattle.c_state.specs.CTokens.{CToken, sign, word}
 use Rattle.c_tree.specs.declared.value.CValue.{CValue}
 use Rattle.c_tree.specs.declared.value.CValue.TheVariants as value
-use Rattle.c_tree.specs.declared.value.Literal.{Literal}
 use Rattle.c_tree.specs.Values.{value_spelling}
 use Rattle.c_operand.specs.Values.{IsBracketed}
 use Rattle.c_operand.proofs.Opens.{class_second, negative_second, not_false, two_signs}

@@ -1,11 +1,11 @@
-use Rattle.std.proofs.Common.{◌≡◌, ◌++◌, ◌∷◌, ℕ, List, Some, ◌⊎◌, inl, inr, refl, sym, ap, ◌∙◌}
+use Rattle.std.proofs.Common.{◌≡◌, ◌++◌, ◌∷◌, ℕ, List, Some, ◌⊎◌, inl, inr, sym, ap, ◌∙◌}
 use Rattle.std.specs.Prelude.{◌≢◌, slice_get}
 use Rattle.c_state.specs.CTokens.{CToken, Word, sign}
 use Rattle.c_tree.specs.declared.value.CValue.{CValue}
 use Rattle.c_tree.specs.declared.value.CValue.TheVariants as value
 use Rattle.c_tree.specs.Values.{value_spelling}
 use Rattle.c_input.specs.Addresses.{IsStored}
-use Rattle.c_operand.specs.Values.{object_word, IsObject, IsWorded}
+use Rattle.c_operand.specs.Values.{IsObject}
 use Rattle.c_operand.proofs.Opens.{front_word, no_number, number_only, object_is, object_value, object_words, same_front, stored_no_object, worded_first, BeginsWith}
 use Rattle.c_operand.proofs.values.worded.Goals as goal
 
@@ -37,9 +37,10 @@ pub returns-in-Some-clause-some : goal.returns-in-Some-clause-some
 returns-in-Some-clause-some c =
     let h = c.in-Some.ensures.some in
     let name : c.in_ok-word-2.field-0.now ≡ c.in_ok-word.word.now = same_front c.args.input.now c.word.new.self c.in_ok-word-2.field-0.now c.in_ok-word.word.now c.in_ok-word-2.ensures.some c.in_ok-word.ensures.some in
-    let spelled = object_words c.in-Some.found h.0 in
-    (object_value c.in-Some.found h.0,
-     c.in_ok-word-2.ensures.some ∙ (ap (λ (w : List ℕ). Word w ∷ c.word.new.self) (name ∙ sym h.1) ∙ ap (λ (t : List CToken). t ++ c.word.new.self) (sym spelled)))
+    let spelled = object_words c.in-Some.found h.0 in (
+      object_value c.in-Some.found h.0,
+      c.in_ok-word-2.ensures.some ∙ (ap (λ (w : List ℕ). Word w ∷ c.word.new.self) (name ∙ sym h.1) ∙ ap (λ (t : List CToken). t ++ c.word.new.self) (sym spelled)),
+    )
 
 pub returns-in-Some-clause-every : goal.returns-in-Some-clause-every
 returns-in-Some-clause-every c = λ v rest form apart e.

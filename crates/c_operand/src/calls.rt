@@ -31,7 +31,10 @@ pub fn argument(alloc: Global, input: &mut Input) -> Result<Option<Argument>, Ou
 }
 
 // Arguments with commas between them, up to `)`.
-fn listed_arguments(alloc: Global, input: &mut Input) -> Result<Option<Items<Argument>>, OutOfMemory>
+fn listed_arguments(
+    alloc: Global,
+    input: &mut Input,
+) -> Result<Option<Items<Argument>>, OutOfMemory>
     ensures some { IfOk result (λ found. Finds (AreFilled IsArgument) (listed argument_spelling) input.old found input.new) }
     ensures every { IfOk result (λ found. ReadsListed IsArgument argument_spelling input.old found) }
 {
