@@ -1,5 +1,5 @@
 -- Fields that are read one by one, numbered from 0.
-use Rattle.std.proofs.Common.{◌≡◌, ℕ, suc, ◌+◌, ◌<◌, ◌≤◌, ◌^◌, List, [], ◌∷◌, ◌++◌, Some, length, refl, sym, ap, ◌∙◌, arith, append_assoc, length-append}
+use Rattle.std.proofs.Common.{◌≡◌, ℕ, suc, ◌+◌, ◌<◌, ◌≤◌, ◌^◌, List, [], ◌∷◌, ◌++◌, Some, length, refl, sym, ap, subst, ◌∙◌, arith, append_assoc, length-append}
 use Rattle.std.specs.Prelude.{◌≢◌, None, Option, ⊤}
 use Rattle.std.proofs.lemmas.Grind.{common_steps}
 use Rattle.c_state.specs.CTokens.{CToken, Word, sign}
@@ -55,7 +55,7 @@ fields_first start = record {
   every = λ whole behind e. record { more = whole; is = refl; spelled = e ∙ assoc (fields_spelling 0 whole) end_tokens behind };
 }
 
-one_longer : (xs : List CType) (x : CType) → length (xs ++ x ∷ []) ≡ suc (length xs)
+pub one_longer : (xs : List CType) (x : CType) → length (xs ++ x ∷ []) ≡ suc (length xs)
 one_longer [] x = refl
 one_longer (y ∷ ys) x = ap suc (one_longer ys x)
 
@@ -156,3 +156,6 @@ fields_end start read rest new h e whole behind k = let r = h.every whole behind
         absurd (no_end y (tail ++ more) new
         (ap (λ (t : List CToken). t ++ (tail ++ more)) (sym (spelled y))
         ∙ (sym (assoc (type_spelling y) tail more) ∙ (sym (first_field (length read) y ys (end_tokens ++ behind)) ∙ (sym told ∙ e)))))
+
+pub moved : (start : List CToken) (read : List CType) (rest new : List CToken) → AreRead start read rest → new ≡ rest → AreRead start read new
+moved start read rest new h e = let P : List CToken → Type 0 = λ z. AreRead start read z in subst P (sym e) h

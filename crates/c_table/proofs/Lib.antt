@@ -1,4 +1,5 @@
 mod Ends
 mod Fields
+mod Lacking
 mod Spelled
 mod Steps

@@ -5,8 +5,8 @@ use Rattle.c_table.specs.Parts.{property_tokens}
 use Rattle.c_table.proofs.Ends.{EndsProperties}
 use Rattle.c_table.proofs.tables.property_rows.Given as goal
 
-abbrev pub invariant-loop-input : goal.invariant-loop-input
-invariant-loop-input l = IsRead IsProperty property_tokens EndsProperties l.initial.input l.rows l.input
+abbrev pub invariant-loop-alloc : goal.invariant-loop-alloc
+invariant-loop-alloc l = IsRead IsProperty property_tokens EndsProperties l.initial.input l.rows l.input
 
-abbrev pub decreases-loop-input : goal.decreases-loop-input
-decreases-loop-input l = length l.input
+abbrev pub decreases-loop-alloc : goal.decreases-loop-alloc
+decreases-loop-alloc l = length l.input
