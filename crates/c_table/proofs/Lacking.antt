@@ -1,5 +1,5 @@
 -- Where no member of a name stands next.
-use Rattle.std.proofs.Common.{◌≡◌, List, [], ◌∷◌, ◌++◌, Some, ℕ, ap, sym, ◌∙◌}
+use Rattle.std.proofs.Common.{◌≡◌, List, [], ◌∷◌, ◌++◌, Some, ℕ, ap, sym, ◌∙◌, arith, get_or}
 use Rattle.std.specs.Prelude.{◌≢◌, None, Option, codes}
 use Rattle.c_state.specs.CTokens.{CToken}
 use Rattle.c_tree.specs.declared.name.Numbered.{Numbered}
@@ -44,10 +44,14 @@ sequence_tokens t = member_tokens (assigned_address (codes "tp_as_sequence")) (c
 abbrev pub mapping_tokens : Tables → List CToken
 mapping_tokens t = member_tokens (assigned_address (codes "tp_as_mapping")) (codes "cyc_mp_") t.mapping
 
-four : (a b c d rest : List CToken) → (a ++ (b ++ (c ++ d))) ++ rest ≡ a ++ (b ++ (c ++ (d ++ rest)))
+pub four : (a b c d rest : List CToken) → (a ++ (b ++ (c ++ d))) ++ rest ≡ a ++ (b ++ (c ++ (d ++ rest)))
 four a b c d rest =
     assoc a (b ++ (c ++ d)) rest
     ∙ ap (λ (t : List CToken). a ++ t) (assoc b (c ++ d) rest ∙ ap (λ (t : List CToken). b ++ t) (assoc c d rest))
+
+-- lists with two different elements at one place
+pub differ_at : (k : ℕ) (a b : List ℕ) → get_or a k 0 ≢ get_or b k 0 → a ≢ b
+differ_at k a b h e = h (ap (λ (l : List ℕ). get_or l k 0) e)
 
 -- the tokens of functions, one member behind another, each lacking the members before it
 pub record AreLaid (f : Functions) (rest : List CToken) : Type 0 where
@@ -60,13 +64,13 @@ pub functions_laid : (f : Functions) (rest : List CToken) → Lacks (codes "tp_b
 functions_laid f rest b n i = record {
   nested = four (base_tokens f) (new_tokens f) (init_tokens f) (dealloc_tokens f) rest;
   base =
-    lacks_value (codes "tp_base") (codes "tp_new") (codes "cyc_new_") f.new (init_tokens f ++ (dealloc_tokens f ++ rest)) (λ e. cc)
-    (lacks_value (codes "tp_base") (codes "tp_init") (codes "cyc_init_") f.init (dealloc_tokens f ++ rest) (λ e. cc)
-    (lacks_value (codes "tp_base") (codes "tp_dealloc") (codes "cyc_dealloc_") f.dealloc rest (λ e. cc) b));
+    lacks_value (codes "tp_base") (codes "tp_new") (codes "cyc_new_") f.new (init_tokens f ++ (dealloc_tokens f ++ rest)) (differ_at 3 (codes "tp_base") (codes "tp_new") (λ k. omega arith))
+    (lacks_value (codes "tp_base") (codes "tp_init") (codes "cyc_init_") f.init (dealloc_tokens f ++ rest) (differ_at 3 (codes "tp_base") (codes "tp_init") (λ k. omega arith))
+    (lacks_value (codes "tp_base") (codes "tp_dealloc") (codes "cyc_dealloc_") f.dealloc rest (differ_at 3 (codes "tp_base") (codes "tp_dealloc") (λ k. omega arith)) b));
   new =
-    lacks_value (codes "tp_new") (codes "tp_init") (codes "cyc_init_") f.init (dealloc_tokens f ++ rest) (λ e. cc)
-    (lacks_value (codes "tp_new") (codes "tp_dealloc") (codes "cyc_dealloc_") f.dealloc rest (λ e. cc) n);
-  init = lacks_value (codes "tp_init") (codes "tp_dealloc") (codes "cyc_dealloc_") f.dealloc rest (λ e. cc) i;
+    lacks_value (codes "tp_new") (codes "tp_init") (codes "cyc_init_") f.init (dealloc_tokens f ++ rest) (differ_at 3 (codes "tp_new") (codes "tp_init") (λ k. omega arith))
+    (lacks_value (codes "tp_new") (codes "tp_dealloc") (codes "cyc_dealloc_") f.dealloc rest (differ_at 3 (codes "tp_new") (codes "tp_dealloc") (λ k. omega arith)) n);
+  init = lacks_value (codes "tp_init") (codes "tp_dealloc") (codes "cyc_dealloc_") f.dealloc rest (differ_at 3 (codes "tp_init") (codes "tp_dealloc") (λ k. omega arith)) i;
 }
 
 -- the tokens of tables, one member behind another, each lacking the members before it

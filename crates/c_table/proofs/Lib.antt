@@ -1,5 +1,6 @@
 mod Ends
 mod Fields
 mod Lacking
+mod Parted
 mod Spelled
 mod Steps
