@@ -2,5 +2,5 @@ mod Ends
 mod Fields
 mod Lacking
 mod Parted
-mod Spelled
+pub mod Spelled
 mod Steps
