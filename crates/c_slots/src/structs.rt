@@ -3,7 +3,7 @@ ghost use Rattle.std.specs.Prelude.{IfOk};
 ghost use Rattle.c_input.specs.Reads.{Finds, ReadsEvery};
 ghost use Rattle.c_slots.specs.Slots.{start_tokens, table_struct_tokens, IsStart, IsTableStruct};
 
-use crate::base::base;
+use crate::base::table_base;
 use crate::numbering::are_slots;
 use crate::slot::slots;
 use c_input::{Input, Piece};
@@ -21,6 +21,7 @@ pub struct TableStruct {
 }
 
 // `struct cyc_vt_0_1 { BASE`
+#[derive(Clone, Copy)]
 struct Start {
     class: Numbered,
     base: TableBase,
@@ -37,7 +38,7 @@ fn start(input: &mut Input) -> Option<Start>
     if !input.fixed(&[Piece::Sign(b"{")]) {
         return None;
     }
-    let base = base(input)?;
+    let base = table_base(input)?;
     Some(Start { class, base })
 }
 

@@ -12,6 +12,7 @@ use sqlite_items::Items;
 use std::alloc::Global;
 
 // The class of the struct, and that of the table.
+#[derive(Clone, Copy)]
 struct TableHead {
     first: Numbered,
     second: Numbered,
