@@ -1,5 +1,5 @@
 -- Parameters between brackets, and declarations.
-use Rattle.std.proofs.Common.{◌≡◌, Bool, true, List, [], ◌∷◌, ◌++◌, Option, Some, refl, sym, ap, ◌∙◌}
+use Rattle.std.proofs.Common.{◌≡◌, Bool, true, false, List, [], ◌∷◌, ◌++◌, Option, Some, refl, sym, ap, ◌∙◌}
 use Rattle.std.specs.Prelude.{◌≢◌}
 use Rattle.c_state.specs.CTokens.{CToken, Word, word, sign}
 use Rattle.c_tree.specs.declared.item.Declaration.{Declaration}
@@ -19,7 +19,7 @@ use Rattle.c_input.proofs.Spelled.{spelled}
 use Rattle.c_operand.proofs.Closed.{closed, closed_filled}
 use Rattle.c_operand.proofs.Commas.{append_assoc, behind}
 use Rattle.c_operand.proofs.Fixed.{type_not_void}
-use Rattle.c_function.specs.Parts.{is_declared}
+use Rattle.c_function.specs.Parts.{is_declared, is_place}
 
 behind_filled : (xs : List CToken) (t : CToken) → xs ++ t ∷ [] ≢ []
 behind_filled [] t e = cc
@@ -52,6 +52,22 @@ declared_variable (variable.Temporary j) h = h
 declared_variable variable.Returned h = h
 declared_variable (variable.Fixed x) h = h
 declared_variable (variable.Place x) h = absurd h
+
+pub declared_no_place : (x : Variable) → IsDeclared x → is_place x ≡ false
+declared_no_place (variable.Parameter j) h = refl
+declared_no_place (variable.Local j) h = refl
+declared_no_place (variable.Temporary j) h = refl
+declared_no_place variable.Returned h = refl
+declared_no_place (variable.Fixed x) h = refl
+declared_no_place (variable.Place x) h = absurd h
+
+pub no_place : (x : Variable) → IsVariable x → is_place x ≡ false → IsDeclared x
+no_place (variable.Parameter j) h e = h
+no_place (variable.Local j) h e = h
+no_place (variable.Temporary j) h e = h
+no_place variable.Returned h e = h
+no_place (variable.Fixed x) h e = h
+no_place (variable.Place x) h e = cc
 
 -- the variable behind the type
 pub second : (x : Variable) (rest old new : List CToken) (r : Option Variable) (found : Variable) → r ≡ Some found → Reads IsVariable (λ v. variable_token v ∷ []) old r new

@@ -5,12 +5,19 @@ use Rattle.c_state.specs.CTokens.{CToken, Word, Sign, sign, word}
 use Rattle.c_tree.specs.declared.item.InitialValue.{InitialValue}
 use Rattle.c_tree.specs.declared.item.InitialValue.TheVariants as initial
 use Rattle.c_tree.specs.declared.item.Parameter.{Parameter}
+use Rattle.c_tree.specs.declared.name.Variable.{Variable}
+use Rattle.c_tree.specs.declared.name.Variable.TheVariants as variable
 use Rattle.c_tree.specs.Items.{parameter_spelling, void_or}
 use Rattle.c_tree.specs.Names.{listed}
 
 -- `(T p0, ..)`, or `(void)`
 abbrev pub parameters_spelling : List Parameter → List CToken
 parameters_spelling parameters = sign "(" ∷ (void_or (listed parameter_spelling parameters) ++ (sign ")" ∷ []))
+
+-- a place of the file
+abbrev pub is_place : Variable → Bool
+is_place (variable.Place x) = true
+is_place _ = false
 
 -- what a variable begins with, and `;`
 abbrev pub initial_tokens : InitialValue → List CToken

@@ -6,7 +6,7 @@ ghost use Rattle.c_tree.specs.declared.item.Declaration.{Declaration as Declarat
 ghost use Rattle.c_tree.specs.Forms.{IsDeclaration};
 ghost use Rattle.c_tree.specs.Items.{declaration_spelling};
 ghost use Rattle.c_input.specs.Reads.{Finds, ReadsEvery};
-ghost use Rattle.c_function.specs.Parts.{initial_tokens, is_declared, is_type_word};
+ghost use Rattle.c_function.specs.Parts.{initial_tokens, is_declared, is_place, is_type_word};
 
 use c_input::{Input, Piece, kind};
 use c_tree::{Declaration, InitialValue, Variable};
@@ -64,6 +64,13 @@ fn initial(input: &mut Input) -> Option<InitialValue>
     None
 }
 
+// Whether the variable is a place of the file.
+fn is_place(variable: Variable) -> bool
+    ensures { result ≡ is_place variable }
+{
+    matches!(variable, Variable::Place(_))
+}
+
 // `T x;`, `T x = 0;`, `T x = NULL;` or `T x = {0};`, where x is no place of the file.
 #[tactic(auto, using(crate::proofs::Texts::initials))]
 fn declaration(input: &mut Input) -> Option<Declaration>
@@ -72,7 +79,7 @@ fn declaration(input: &mut Input) -> Option<Declaration>
 {
     let kind = kind(input)?;
     let variable = input.variable()?;
-    if matches!(variable, Variable::Place(_)) {
+    if is_place(variable) {
         return None;
     }
     let initial = initial(input)?;

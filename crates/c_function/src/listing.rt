@@ -48,10 +48,7 @@ fn listed_parameters(
 
 // `(T p0, ..)`, or `(void)` where there are none.
 #[tactic(auto, using(c_operand::proofs::Fixed::void_spelled))]
-pub fn parameters(
-    alloc: Global,
-    input: &mut Input,
-) -> Result<Option<Items<Parameter>>, OutOfMemory>
+pub fn parameters(alloc: Global, input: &mut Input) -> Result<Option<Items<Parameter>>, OutOfMemory>
     ensures some { IfOk result (λ found. Finds (AllByRecursion IsParameter) parameters_spelling input.old found input.new) }
     ensures every { IfOk result (λ found. ReadsEvery (AllByRecursion IsParameter) parameters_spelling input.old found) }
 {
