@@ -2,6 +2,9 @@
 #![tactic(auto)]
 
 mod declared;
+mod fixed;
+mod heads;
 mod listing;
 
 pub use declared::declarations;
+pub use heads::head;
