@@ -1,6 +1,7 @@
 -- Trees one behind another in a list of tokens.
-use Rattle.std.proofs.Common.{◌≡◌, List, [], ◌∷◌, ◌++◌, Some, sym, ap, ◌∙◌}
-use Rattle.std.specs.Prelude.{None}
+use Rattle.std.proofs.Common.{◌≡◌, List, [], ◌∷◌, ◌++◌, Bool, true, false, Some, refl, sym, ap, ◌∙◌}
+use Rattle.std.specs.Prelude.{None, Option}
+use Rattle.std.proofs.lemmas.Bool.{false≢true}
 use Rattle.std.proofs.lemmas.List.{append_assoc}
 use Rattle.c_state.specs.CTokens.{CToken, sign, word, c_tokens, tokens_from}
 use Rattle.c_tree.specs.declared.statement.ViewNumber.{ViewNumber}
@@ -9,7 +10,12 @@ use Rattle.c_tree.specs.declared.name.Variable.{Variable}
 use Rattle.c_tree.specs.declared.statement.FieldPlace.{FieldPlace}
 use Rattle.c_tree.specs.declared.statement.ViewPlace.{ViewPlace}
 use Rattle.c_tree.specs.declared.statement.ViewPlace.TheVariants as place
-use Rattle.c_tree.specs.Statements.{number_spelling}
+use Rattle.c_tree.specs.declared.statement.Extent.{Extent}
+use Rattle.c_tree.specs.declared.statement.Extent.TheVariants as extent
+use Rattle.c_tree.specs.Statements.{extent_name, number_spelling, view}
+use Rattle.c_input.specs.Reads.{Finds}
+use Rattle.c_input.proofs.Rows.{next_one}
+use Rattle.c_statement.specs.Seen.{sign_at, word_at}
 use Rattle.c_statement.specs.Sources.{end}
 
 pub front_of : (a tail rest : List CToken) {old : List CToken} → old ≡ (a ++ tail) ++ rest → old ≡ a ++ (tail ++ rest)
@@ -37,3 +43,25 @@ field_known known is = cc
 
 pub variable_apart : {v : ViewPlace} {p : FieldPlace} {x : Variable} → Some v ≡ Some (place.Field p) → v ≡ place.Variable x → ⊥
 variable_apart known is = cc
+
+pub left_found : {A : Type 0} (form : A → Type 0) (spell : A → List CToken) {found x : A} {r : Option A} {old new rest : List CToken}
+    → r ≡ Some found → r ≡ Some x → Finds form spell old r new → old ≡ spell x ++ rest → new ≡ rest
+left_found form spell {found = found} {x = x} {r = r} {old = old} {new = new} {rest = rest} is known finds e = (next_one form spell old r new found x rest is finds known e).left
+
+pub plus_apart : {xs ys : List CToken} → sign ";" ∷ xs ≡ sign "+" ∷ ys → ⊥
+plus_apart e = false≢true (sym (ap (sign_at ";" 0) e))
+
+pub memory_apart : {xs ys : List CToken} → word "buf" ∷ xs ≡ word "mv" ∷ ys → ⊥
+memory_apart e = false≢true (sym (ap (word_at "buf" 0) e))
+
+pub extent_apart : (x : Extent) {xs ys : List CToken} → word "buf" ∷ xs ≡ extent_name x ∷ ys → ⊥
+extent_apart extent.Length e = false≢true (sym (ap (word_at "buf" 0) e))
+extent_apart extent.Stride e = false≢true (sym (ap (word_at "buf" 0) e))
+
+pub view_word : (v : ViewPlace) (more : List CToken) → word_at "char" 1 (view v ++ (sign "." ∷ more)) ≡ false
+unfolding c_tokens tokens_from
+view_word (place.Variable x) more = refl
+view_word (place.Field p) more = refl
+
+pub no_view : (v : ViewPlace) (more : List CToken) {old : List CToken} {b : Bool} → old ≡ view v ++ (sign "." ∷ more) → b ≡ word_at "char" 1 old → b ≡ true → ⊥
+no_view v more e seen is = false≢true (sym (view_word v more) ∙ (ap (word_at "char" 1) (sym e) ∙ (sym seen ∙ is)))

@@ -1,6 +1,8 @@
 -- What the first tokens say of each source in form.
 use Rattle.std.proofs.Common.{◌≡◌, ◌⊎◌, inl, inr, ℕ, List, [], ◌∷◌, ◌++◌, Bool, true, false, Some, refl, sym, ap, subst, ◌∙◌}
-use Rattle.std.specs.Prelude.{codes, ◌&&◌, not, if◌then◌else◌, slice_get}
+use Rattle.std.specs.Prelude.{codes, ◌&&◌, not, if◌then◌else◌, slice_get, IfOk, Option}
+use Rattle.std.proofs.Common.{Result, Ok, Err}
+use Rattle.c_input.specs.Reads.{ReadsEvery}
 use Rattle.std.specs.List.{flat_map}
 use Rattle.std.proofs.lemmas.List.{append_assoc}
 use Rattle.c_state.specs.CTokens.{CToken, Word, word, sign, c_tokens, tokens_from}
@@ -24,7 +26,7 @@ use Rattle.c_statement.specs.declared.source.Source.{Source}
 use Rattle.c_statement.specs.declared.source.Source.TheVariants as source
 use Rattle.c_statement.specs.declared.source_kind.SourceKind.TheVariants as kind
 use Rattle.c_statement.specs.Seen.{is_sign, is_word, sign_at, word_at}
-use Rattle.c_statement.specs.Sources.{end, source_kind, source_seen, source_tokens, IsSource}
+use Rattle.c_statement.specs.Sources.{end, source_kind, source_seen, source_tokens, IsSource, IsSourceOf}
 
 -- what stands behind an operand is no `(` and no `.`
 abbrev pub IsBehind : CToken → Type 0
@@ -185,3 +187,11 @@ kind_of_source (source.Memory (place.Field p)) rest h = refl
 kind_of_source (source.Extent (place.Variable x) e j) rest h = refl
 kind_of_source (source.Extent (place.Field p) e j) rest h = refl
 kind_of_source (source.Element e) rest h = refl
+
+pub told_kind : (s : Source) (rest : List CToken) {old : List CToken} {k : kind.the_data} → IsSource s → old ≡ source_tokens s ++ rest → k ≡ source_seen old → source_kind s ≡ k
+told_kind s rest form e seen = sym (seen ∙ (ap source_seen e ∙ kind_of_source s rest form))
+
+pub every_ok : {E : Type 0} (r : Result (Option Source) E) (old : List CToken) (k : kind.the_data) → k ≡ source_seen old
+    → IfOk r (λ found. ReadsEvery (IsSourceOf k) source_tokens old found) → IfOk r (λ found. ReadsEvery IsSource source_tokens old found)
+every_ok (Ok found) old k seen h = λ s rest form e. h s rest (form, told_kind s rest form e seen) e
+every_ok (Err error) old k seen h = tt
