@@ -4,3 +4,4 @@ mod Lacking
 mod Parted
 pub mod Spelled
 mod Steps
+pub mod TypeSpelled
