@@ -1,5 +1,5 @@
 -- What stands in the brackets of a head or a prototype.
-use Rattle.std.proofs.Common.{◌≡◌, List, [], ◌∷◌, ◌++◌, refl, sym, ap, ◌∙◌}
+use Rattle.std.proofs.Common.{◌≡◌, List, [], ◌∷◌, ◌++◌, refl, ap, ◌∙◌}
 use Rattle.std.specs.Prelude.{◌≢◌}
 use Rattle.c_state.specs.CTokens.{CToken, word, sign}
 use Rattle.c_tree.specs.declared.value.CType.{CType}

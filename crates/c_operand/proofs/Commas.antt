@@ -1,14 +1,14 @@
 -- Lists with commas between their items, read item by item up to `)`.
 use Rattle.std.proofs.Common.{◌≡◌, List, [], ◌∷◌, ◌++◌, Option, Some, None, refl, sym, ap, ◌∙◌, arith, ◌⊎◌, inl, inr, subst}
-use Rattle.std.specs.Prelude.{◌≢◌}
+use Rattle.std.specs.Prelude.{◌≢◌, slice_get}
 use Rattle.std.specs.List.{flat_map, AllByRecursion}
 use Rattle.std.proofs.lemmas.Grind.{common_steps, flat_map-append}
 use Rattle.c_state.specs.CTokens.{CToken, sign}
 use Rattle.c_tree.specs.Names.{listed}
-use Rattle.c_input.specs.Reads.{ReadsEvery}
+use Rattle.c_input.specs.Reads.{Finds, ReadsEvery}
 use Rattle.c_input.proofs.Rows.{same_left}
 use Rattle.c_operand.specs.Listed.{AreFilled}
-use Rattle.c_operand.proofs.Tokens.{firsts_differ}
+use Rattle.c_operand.proofs.Tokens.{firsts_differ, tokens_differ}
 
 -- what stands behind an item
 abbrev pub IsBehind : List CToken → Type 0
@@ -37,6 +37,9 @@ append_assoc xs ys zs = grind (arith, common_steps)
 append_nil : {A : Type 0} (xs : List A) → xs ++ [] ≡ xs
 append_nil xs = grind (arith, common_steps)
 
+one_token : (s t : CToken) → Some s ≡ Some t → s ≡ t
+one_token s t e = cc
+
 is_behind : {A : Type 0} (spell : A → List CToken) (more : List A) (tail : List CToken) → IsBehind (behind spell more ++ (sign ")" ∷ tail))
 is_behind spell [] tail = inr refl
 is_behind spell (x ∷ more) tail = inl refl
@@ -47,6 +50,21 @@ ReadsItem {A} form spell old result = (x : A) (tail : List CToken) → form x �
 
 pub item_every : {A : Type 0} (form : A → Type 0) (spell : A → List CToken) (old : List CToken) (r : Option A) → ReadsEvery form spell old r → ReadsItem form spell old r
 item_every form spell old r every = λ x tail h b e. every x tail h e
+
+-- no `[` stands behind an item
+behind_apart : (tail : List CToken) → IsBehind tail → slice_get tail 0 ≢ Some (sign "[")
+behind_apart [] h e = h
+behind_apart (t ∷ ts) (inl k) e = tokens_differ (sign ",") (sign "[") refl (sym k ∙ one_token t (sign "[") e)
+behind_apart (t ∷ ts) (inr k) e = tokens_differ (sign ")") (sign "[") refl (sym k ∙ one_token t (sign "[") e)
+
+pub item_apart : {A : Type 0} (form : A → Type 0) (spell : A → List CToken) (old : List CToken) (r : Option A)
+    → ((x : A) (rest : List CToken) → form x → slice_get rest 0 ≢ Some (sign "[") → old ≡ spell x ++ rest → r ≡ Some x) → ReadsItem form spell old r
+item_apart form spell old r every = λ x tail h b e. every x tail h (behind_apart tail b) e
+
+-- what was found
+pub found : {A : Type 0} (form : A → Type 0) (spell : A → List CToken) (old : List CToken) (r : Option A) (new : List CToken) (x : A)
+    → r ≡ Some x → Finds form spell old r new → form x × (old ≡ spell x ++ new)
+found {A} form spell old r new x is finds = subst (λ (t : Option A). Finds form spell old t new) is finds
 
 pub listed_first : {A : Type 0} (form : A → Type 0) (spell : A → List CToken) (start rest : List CToken) (x : A) (r : Option A)
     → r ≡ Some x → form x → start ≡ spell x ++ rest → ReadsItem form spell start r → AreListed form spell start (x ∷ []) rest

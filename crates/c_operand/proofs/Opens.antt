@@ -1,15 +1,16 @@
 -- How operands begin.
-use Rattle.std.proofs.Common.{◌≡◌, ℕ, suc, ◌+◌, ◌%◌, ◌<◌, ◌≤◌, ◌^◌, Bool, true, false, ◌⊎◌, inl, inr, List, [], ◌∷◌, ◌++◌, Option, Some, refl, sym, ap, ◌∙◌, arith, subst}
-use Rattle.std.specs.Prelude.{pos, negsuc, ◌≤ℤ◌, decimal, codes, slice_get, nat_lt}
+use Rattle.std.proofs.Common.{◌≡◌, ℕ, ◌+◌, ◌%◌, ◌<◌, ◌≤◌, ◌^◌, Bool, true, false, ◌⊎◌, inl, inr, List, [], ◌∷◌, ◌++◌, Option, Some, refl, sym, ap, ◌∙◌, arith}
+use Rattle.std.specs.Prelude.{⊤, pos, negsuc, ◌≤ℤ◌, decimal, codes, slice_get, nat_lt}
 use Rattle.std.proofs.lemmas.Grind.{common_steps}
 use Rattle.std.proofs.lemmas.Int.{ints}
 use Rattle.std.proofs.lemmas.Fmt.{decimal_by_steps}
 use Rattle.std.specs.Char.{is_ascii_digit}
-use Rattle.c_state.specs.CTokens.{CToken, Word, word, sign, c_tokens, tokens_from}
+use Rattle.std.specs.Str.{bytes_eq}
+use Rattle.c_state.specs.CTokens.{CToken, Character, HeaderName, LineEnd, Other, Sign, Str, Word, word, sign, c_tokens, tokens_from}
 use Rattle.c_state.specs.declared.space.Exception.{Exception}
 use Rattle.c_state.specs.declared.space.Exception.TheVariants as exception
-use Rattle.c_tree.specs.declared.name.FixedParameter.{FixedParameter}
 use Rattle.c_tree.specs.declared.name.FixedParameter.TheVariants as fixed
+use Rattle.c_tree.specs.declared.name.Numbered.{Numbered}
 use Rattle.c_tree.specs.declared.name.Place.TheVariants as place
 use Rattle.c_tree.specs.declared.name.Variable.{Variable}
 use Rattle.c_tree.specs.declared.name.Variable.TheVariants as variable
@@ -17,24 +18,17 @@ use Rattle.c_tree.specs.declared.value.CValue.{CValue}
 use Rattle.c_tree.specs.declared.value.CValue.TheVariants as value
 use Rattle.c_tree.specs.declared.value.Literal.{Literal}
 use Rattle.c_tree.specs.declared.value.Literal.TheVariants as literal
-use Rattle.c_tree.specs.Forms.{IsLiteral, IsValue, IsVariable}
-use Rattle.c_tree.specs.Names.{text, name_token, variable_name, fixed_name}
+use Rattle.c_tree.specs.Forms.{IsLiteral, IsValue}
+use Rattle.c_tree.specs.Names.{name_token, variable_name}
 use Rattle.c_tree.specs.Values.{exception_name, literal_spelling, value_spelling}
-use Rattle.c_input.specs.Addresses.{IsAddress}
-use Rattle.c_input.specs.Literals.{IsNegative, behind_minus}
+use Rattle.c_input.specs.Addresses.{IsAddress, IsStored}
+use Rattle.c_input.specs.Literals.{IsNegative}
 use Rattle.c_input.proofs.Fixed.{cast_spelled, definition_spelled}
 use Rattle.c_input.proofs.Sides.{negative_spelled}
-use Rattle.c_operand.specs.Values.{begins_number, IsBracketed, IsObject, IsPlainLiteral, IsWorded}
+use Rattle.c_operand.proofs.Tokens.{letters_of, tokens_differ}
+use Rattle.c_operand.specs.Values.{begins_number, object_word, IsBracketed, IsObject, IsPlainLiteral, IsWorded}
 
 -- ---- words
-
-abbrev pub object_word : CValue → List ℕ
-object_word value.Null = codes "NULL"
-object_word value.NoneObject = codes "Py_None"
-object_word value.TrueObject = codes "Py_True"
-object_word value.FalseObject = codes "Py_False"
-object_word (value.Exception e) = exception_name e
-object_word _ = []
 
 pub object_words : (v : CValue) → IsObject v → value_spelling v ≡ Word (object_word v) ∷ []
 unfolding c_tokens tokens_from
@@ -239,3 +233,179 @@ worded_first (value.Exception e) h = record { letters = exception_name e; more =
 worded_first (value.ClassObject n) h = absurd h
 worded_first (value.TypeAddress n) h = absurd h
 worded_first value.Definition h = absurd h
+
+-- ---- second tokens in brackets
+
+pub negative_second : (l : Literal) (rest : List CToken) → IsNegative l → slice_get (literal_spelling l ++ rest) 1 ≡ Some (sign "-")
+negative_second l rest h = ap (λ (t : List CToken). slice_get (t ++ rest) 1) (negative_spelled l h.1)
+
+pub class_second : (n : Numbered) (rest : List CToken) → slice_get (value_spelling (value.ClassObject n) ++ rest) 1 ≡ Some (word "PyObject")
+class_second n rest = ap (λ (t : List CToken). slice_get ((t ++ (name_token "cyc_ty_" n ∷ [])) ++ rest) 1) cast_spelled
+
+pub two_signs : (old : List CToken) (at : ℕ) (s t : CToken) → bytes_eq (letters_of s) (letters_of t) ≡ false → slice_get old at ≡ Some s → slice_get old at ≡ Some t → ⊥
+two_signs old at s t h e f = tokens_differ s t h cc
+
+-- ---- words at the front
+
+wrong : true ≡ false → ⊥
+wrong e = cc
+
+pub not_false : {b : Bool} → b ≡ false → b ≡ true → ⊥
+not_false e f = wrong (sym f ∙ e)
+
+pub same_front : (old rest : List CToken) (v w : List ℕ) → old ≡ Word v ∷ rest → slice_get old 0 ≡ Some (Word w) → v ≡ w
+same_front old rest v w e at = let first : slice_get old 0 ≡ Some (Word v) = ap (λ (t : List CToken). slice_get t 0) e in cc
+
+pub object_value : (v : CValue) → IsObject v → IsValue v
+object_value value.Null h = tt
+object_value value.NoneObject h = tt
+object_value value.TrueObject h = tt
+object_value value.FalseObject h = tt
+object_value (value.Exception e) h = tt
+object_value (value.Variable x) h = absurd h
+object_value (value.Argument j) h = absurd h
+object_value (value.Literal l) h = absurd h
+object_value (value.ClassObject n) h = absurd h
+object_value (value.TypeAddress n) h = absurd h
+object_value value.Definition h = absurd h
+
+one_word : (v w : List ℕ) (xs ys : List CToken) → Word v ∷ xs ≡ Word w ∷ ys → v ≡ w
+one_word v w xs ys e = cc
+
+-- the operand begins with this word
+pub record BeginsWith (v : CValue) (w : List ℕ) : Type 0 where
+  pub more : List CToken
+  pub is : value_spelling v ≡ Word w ∷ more
+
+pub front_word : (v : CValue) (rest old : List CToken) (w : List ℕ) → IsWorded v → old ≡ value_spelling v ++ rest → slice_get old 0 ≡ Some (Word w) → BeginsWith v w
+front_word v rest old w h e at =
+    let f = worded_first v h in
+    let front : old ≡ Word f.letters ∷ (f.more ++ rest) = e ∙ ap (λ (t : List CToken). t ++ rest) f.is in
+    let first : slice_get old 0 ≡ Some (Word f.letters) = ap (λ (t : List CToken). slice_get t 0) front in
+    let same : f.letters ≡ w = cc in
+    record { more = f.more; is = f.is ∙ ap (λ (t : List ℕ). Word t ∷ f.more) same }
+
+pub record IsLiteralOf (v : CValue) : Type 0 where
+  pub literal : Literal
+  pub is : v ≡ value.Literal literal
+  pub form : IsLiteral literal
+
+no_digit : (name w : List ℕ) → begins_number name ≡ false → name ≡ w → begins_number w ≡ true → ⊥
+no_digit name w h e b = let same : begins_number name ≡ begins_number w = ap begins_number e in cc
+
+pub number_only : (v : CValue) (w : List ℕ) → IsWorded v → BeginsWith v w → begins_number w ≡ true → IsLiteralOf v
+number_only (value.Literal l) w h f b = record { literal = l; is = refl; form = plain_literal l h }
+number_only (value.Variable x) w h f b = absurd (no_digit (variable_name x) w (variable_no_number x) (one_word (variable_name x) w _ _ f.is) b)
+number_only (value.Argument j) w h f b = absurd (no_digit (codes "args") w refl (one_word (codes "args") w _ _ f.is) b)
+number_only value.Null w h f b = absurd (no_digit (codes "NULL") w refl (one_word (codes "NULL") w _ _ (sym (object_words value.Null tt) ∙ f.is)) b)
+number_only value.NoneObject w h f b = absurd (no_digit (codes "Py_None") w refl (one_word (codes "Py_None") w _ _ (sym (object_words value.NoneObject tt) ∙ f.is)) b)
+number_only value.TrueObject w h f b = absurd (no_digit (codes "Py_True") w refl (one_word (codes "Py_True") w _ _ (sym (object_words value.TrueObject tt) ∙ f.is)) b)
+number_only value.FalseObject w h f b = absurd (no_digit (codes "Py_False") w refl (one_word (codes "Py_False") w _ _ (sym (object_words value.FalseObject tt) ∙ f.is)) b)
+number_only (value.Exception x) w h f b = absurd (no_digit (exception_name x) w (object_first (value.Exception x) tt).1 (one_word (exception_name x) w _ _ f.is) b)
+number_only (value.ClassObject n) w h f b = absurd h
+number_only (value.TypeAddress n) w h f b = absurd h
+number_only value.Definition w h f b = absurd h
+
+pub no_number : (v : CValue) (w : List ℕ) → IsWorded v → BeginsWith v w → begins_number w ≡ false → IsObject v ⊎ IsStored v
+no_number (value.Literal l) w h f b =
+    let p = plain_word l h in
+    let same : p.letters ≡ w = one_word p.letters w _ _ (sym p.is ∙ f.is) in
+    let is : begins_number p.letters ≡ begins_number w = ap begins_number same in
+    let number = p.number in
+    absurd (wrong cc)
+no_number (value.Variable x) w h f b = inr h
+no_number (value.Argument j) w h f b = inr h
+no_number value.Null w h f b = inl tt
+no_number value.NoneObject w h f b = inl tt
+no_number value.TrueObject w h f b = inl tt
+no_number value.FalseObject w h f b = inl tt
+no_number (value.Exception x) w h f b = inl tt
+no_number (value.ClassObject n) w h f b = absurd h
+no_number (value.TypeAddress n) w h f b = absurd h
+no_number value.Definition w h f b = absurd h
+
+pub object_is : (v : CValue) (w : List ℕ) → IsObject v → BeginsWith v w → object_word v ≡ w
+object_is v w h f = one_word (object_word v) w _ _ (sym (object_words v h) ∙ f.is)
+
+small_name : (name w : List ℕ) → begins_small name ≡ true → name ≡ w → begins_small w ≡ true
+small_name name w h e = ap begins_small (sym e) ∙ h
+
+stored_small : (v : CValue) (w : List ℕ) → IsStored v → BeginsWith v w → begins_small w ≡ true
+stored_small (value.Variable x) w h f = small_name (variable_name x) w (variable_small x) (one_word (variable_name x) w _ _ f.is)
+stored_small (value.Argument j) w h f = small_name (codes "args") w refl (one_word (codes "args") w _ _ f.is)
+stored_small (value.Literal l) w h f = absurd h
+stored_small value.Null w h f = absurd h
+stored_small value.NoneObject w h f = absurd h
+stored_small value.TrueObject w h f = absurd h
+stored_small value.FalseObject w h f = absurd h
+stored_small (value.Exception x) w h f = absurd h
+stored_small (value.ClassObject n) w h f = absurd h
+stored_small (value.TypeAddress n) w h f = absurd h
+stored_small value.Definition w h f = absurd h
+
+-- no variable has the name of an object
+pub stored_no_object : (v o : CValue) (w : List ℕ) → IsStored v → BeginsWith v w → IsObject o → object_word o ≡ w → ⊥
+stored_no_object v o w h f k e =
+    let small = stored_small v w h f in
+    let big = (object_first o k).0 in
+    let same : begins_small (object_word o) ≡ begins_small w = ap begins_small e in
+    wrong cc
+
+-- ---- first tokens, where the operand stands at the front
+
+pub address_at : (v : CValue) (rest old : List CToken) → IsAddress v → old ≡ value_spelling v ++ rest → slice_get old 0 ≡ Some (sign "&")
+address_at v rest old h e = ap (λ (t : List CToken). slice_get t 0) e ∙ address_first v rest h
+
+pub bracketed_at : (v : CValue) (rest old : List CToken) → IsBracketed v → old ≡ value_spelling v ++ rest → slice_get old 0 ≡ Some (sign "(")
+bracketed_at v rest old h e = ap (λ (t : List CToken). slice_get t 0) e ∙ bracketed_first v rest h
+
+no_sign : (w letters : List ℕ) (r : Option CToken) → r ≡ Some (Word w) → r ≡ Some (Sign letters) → ⊥
+no_sign w letters r e f = cc
+
+-- an operand that begins with a word begins with no sign
+pub worded_at : (v : CValue) (rest old : List CToken) (letters : List ℕ) → IsWorded v → old ≡ value_spelling v ++ rest → slice_get old 0 ≡ Some (Sign letters) → ⊥
+worded_at v rest old letters h e at =
+    let f = worded_first v h in
+    let front : old ≡ Word f.letters ∷ (f.more ++ rest) = e ∙ ap (λ (t : List CToken). t ++ rest) f.is in
+    no_sign f.letters letters (slice_get old 0) (ap (λ (t : List CToken). slice_get t 0) front) at
+
+-- a word or a sign
+abbrev letters_only : CToken → Type 0
+letters_only (Word w) = ⊤
+letters_only (Sign w) = ⊤
+letters_only _ = ⊥
+
+no_string : (t : CToken) (raw : List ℕ) (r : Option CToken) → r ≡ Some t → letters_only t → r ≡ Some (Str raw) → ⊥
+no_string (Word w) raw r e h f = cc
+no_string (Sign w) raw r e h f = cc
+no_string (Str w) raw r e h f = h
+no_string (Character w) raw r e h f = h
+no_string (HeaderName w) raw r e h f = h
+no_string LineEnd raw r e h f = h
+no_string (Other w) raw r e h f = h
+
+-- no operand begins with a string
+pub value_no_string : (v : CValue) (rest old more : List CToken) (raw : List ℕ) → IsValue v → old ≡ value_spelling v ++ rest → old ≡ Str raw ∷ more → ⊥
+value_no_string v rest old more raw form e f = go (sorts v form)
+  where
+    first : slice_get old 0 ≡ Some (Str raw)
+    first = ap (λ (t : List CToken). slice_get t 0) f
+
+    go : IsAddress v ⊎ (IsBracketed v ⊎ IsWorded v) → ⊥
+    go (inl h) = no_string (sign "&") raw (slice_get old 0) (address_at v rest old h e) tt first
+    go (inr (inl h)) = no_string (sign "(") raw (slice_get old 0) (bracketed_at v rest old h e) tt first
+    go (inr (inr h)) =
+        let w = worded_first v h in
+        no_string (Word w.letters) raw (slice_get old 0) (ap (λ (t : List CToken). slice_get t 0) e ∙ ap (λ (t : List CToken). slice_get (t ++ rest) 0) w.is) tt first
+
+-- no operand begins with `)`
+pub value_no_close : (v : CValue) (rest old more : List CToken) → IsValue v → old ≡ value_spelling v ++ rest → old ≡ sign ")" ∷ more → ⊥
+value_no_close v rest old more form e f = go (sorts v form)
+  where
+    first : slice_get old 0 ≡ Some (sign ")")
+    first = ap (λ (t : List CToken). slice_get t 0) f
+
+    go : IsAddress v ⊎ (IsBracketed v ⊎ IsWorded v) → ⊥
+    go (inl h) = two_signs old 0 (sign "&") (sign ")") refl (address_at v rest old h e) first
+    go (inr (inl h)) = two_signs old 0 (sign "(") (sign ")") refl (bracketed_at v rest old h e) first
+    go (inr (inr h)) = worded_at v rest old (codes ")") h e first

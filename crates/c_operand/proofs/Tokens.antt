@@ -1,8 +1,8 @@
 -- Tokens with other letters are others.
-use Rattle.std.proofs.Common.{◌≡◌, ℕ, Bool, true, false, List, [], ◌∷◌, refl, subst}
+use Rattle.std.proofs.Common.{◌≡◌, ℕ, true, false, List, [], ◌∷◌, refl, subst}
 use Rattle.std.specs.Str.{bytes_eq}
 use Rattle.std.proofs.lemmas.Bool.{eq-eqb}
-use Rattle.c_state.specs.CTokens.{CToken, Word, Sign, Str, Character, HeaderName, LineEnd}
+use Rattle.c_state.specs.CTokens.{CToken, Word, Sign}
 
 abbrev pub letters_of : CToken → List ℕ
 letters_of (Word letters) = letters

@@ -1,10 +1,11 @@
 -- Sorts of operands, by how they begin. The project's own profile of C.
-use Rattle.std.specs.Prelude.{⊤, ℕ, List, [], ◌∷◌, Bool, false, pos, negsuc}
+use Rattle.std.specs.Prelude.{⊤, ℕ, List, [], ◌∷◌, Bool, false, negsuc, codes}
 use Rattle.std.specs.Char.{is_ascii_digit}
 use Rattle.c_tree.specs.declared.value.CValue.{CValue}
 use Rattle.c_tree.specs.declared.value.CValue.TheVariants as value
 use Rattle.c_tree.specs.declared.value.Literal.{Literal}
 use Rattle.c_tree.specs.declared.value.Literal.TheVariants as literal
+use Rattle.c_tree.specs.Values.{exception_name}
 use Rattle.c_tree.specs.Forms.{IsLiteral, IsNumber, IsNumbered, IsVariable}
 use Rattle.c_input.specs.Literals.{IsNegative}
 
@@ -21,6 +22,15 @@ IsObject value.TrueObject = ⊤
 IsObject value.FalseObject = ⊤
 IsObject (value.Exception e) = ⊤
 IsObject _ = ⊥
+
+-- that name
+abbrev pub object_word : CValue → List ℕ
+object_word value.Null = codes "NULL"
+object_word value.NoneObject = codes "Py_None"
+object_word value.TrueObject = codes "Py_True"
+object_word value.FalseObject = codes "Py_False"
+object_word (value.Exception e) = exception_name e
+object_word _ = []
 
 -- an operand in brackets: a literal below zero, or the address of a type object as an object
 abbrev pub IsBracketed : CValue → Type 0

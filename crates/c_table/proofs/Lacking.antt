@@ -1,5 +1,5 @@
 -- Where no member of a name stands next.
-use Rattle.std.proofs.Common.{◌≡◌, List, [], ◌∷◌, ◌++◌, Some, ℕ, ap, sym, ◌∙◌, arith, get_or}
+use Rattle.std.proofs.Common.{◌≡◌, List, ◌++◌, Some, ℕ, ap, sym, ◌∙◌, arith, get_or}
 use Rattle.std.specs.Prelude.{◌≢◌, None, Option, codes}
 use Rattle.c_state.specs.CTokens.{CToken}
 use Rattle.c_tree.specs.declared.name.Numbered.{Numbered}
@@ -64,12 +64,12 @@ pub functions_laid : (f : Functions) (rest : List CToken) → Lacks (codes "tp_b
 functions_laid f rest b n i = record {
   nested = four (base_tokens f) (new_tokens f) (init_tokens f) (dealloc_tokens f) rest;
   base =
-    lacks_value (codes "tp_base") (codes "tp_new") (codes "cyc_new_") f.new (init_tokens f ++ (dealloc_tokens f ++ rest)) (differ_at 3 (codes "tp_base") (codes "tp_new") (λ k. omega arith))
-    (lacks_value (codes "tp_base") (codes "tp_init") (codes "cyc_init_") f.init (dealloc_tokens f ++ rest) (differ_at 3 (codes "tp_base") (codes "tp_init") (λ k. omega arith))
-    (lacks_value (codes "tp_base") (codes "tp_dealloc") (codes "cyc_dealloc_") f.dealloc rest (differ_at 3 (codes "tp_base") (codes "tp_dealloc") (λ k. omega arith)) b));
+      lacks_value (codes "tp_base") (codes "tp_new") (codes "cyc_new_") f.new (init_tokens f ++ (dealloc_tokens f ++ rest)) (differ_at 3 (codes "tp_base") (codes "tp_new") (λ k. omega arith))
+      (lacks_value (codes "tp_base") (codes "tp_init") (codes "cyc_init_") f.init (dealloc_tokens f ++ rest) (differ_at 3 (codes "tp_base") (codes "tp_init") (λ k. omega arith))
+      (lacks_value (codes "tp_base") (codes "tp_dealloc") (codes "cyc_dealloc_") f.dealloc rest (differ_at 3 (codes "tp_base") (codes "tp_dealloc") (λ k. omega arith)) b));
   new =
-    lacks_value (codes "tp_new") (codes "tp_init") (codes "cyc_init_") f.init (dealloc_tokens f ++ rest) (differ_at 3 (codes "tp_new") (codes "tp_init") (λ k. omega arith))
-    (lacks_value (codes "tp_new") (codes "tp_dealloc") (codes "cyc_dealloc_") f.dealloc rest (differ_at 3 (codes "tp_new") (codes "tp_dealloc") (λ k. omega arith)) n);
+      lacks_value (codes "tp_new") (codes "tp_init") (codes "cyc_init_") f.init (dealloc_tokens f ++ rest) (differ_at 3 (codes "tp_new") (codes "tp_init") (λ k. omega arith))
+      (lacks_value (codes "tp_new") (codes "tp_dealloc") (codes "cyc_dealloc_") f.dealloc rest (differ_at 3 (codes "tp_new") (codes "tp_dealloc") (λ k. omega arith)) n);
   init = lacks_value (codes "tp_init") (codes "tp_dealloc") (codes "cyc_dealloc_") f.dealloc rest (differ_at 3 (codes "tp_init") (codes "tp_dealloc") (λ k. omega arith)) i;
 }
 
@@ -90,12 +90,12 @@ pub tables_set : (t : Tables) (rest : List CToken) → AreSet t rest
 tables_set t rest = record {
   nested = tables_nested t rest;
   methods =
-    lacks_value (codes "tp_methods") (codes "tp_getset") (codes "cyc_gs_") t.properties (sequence_tokens t ++ (mapping_tokens t ++ (end_tokens ++ rest))) (λ e. cc)
-    (lacks_address (codes "tp_methods") (codes "tp_as_sequence") (codes "cyc_sq_") t.sequence (mapping_tokens t ++ (end_tokens ++ rest)) (λ e. cc)
-    (lacks_address (codes "tp_methods") (codes "tp_as_mapping") (codes "cyc_mp_") t.mapping (end_tokens ++ rest) (λ e. cc) (lacks_end (codes "tp_methods") rest)));
+      lacks_value (codes "tp_methods") (codes "tp_getset") (codes "cyc_gs_") t.properties (sequence_tokens t ++ (mapping_tokens t ++ (end_tokens ++ rest))) (λ e. cc)
+      (lacks_address (codes "tp_methods") (codes "tp_as_sequence") (codes "cyc_sq_") t.sequence (mapping_tokens t ++ (end_tokens ++ rest)) (λ e. cc)
+      (lacks_address (codes "tp_methods") (codes "tp_as_mapping") (codes "cyc_mp_") t.mapping (end_tokens ++ rest) (λ e. cc) (lacks_end (codes "tp_methods") rest)));
   properties =
-    lacks_address (codes "tp_getset") (codes "tp_as_sequence") (codes "cyc_sq_") t.sequence (mapping_tokens t ++ (end_tokens ++ rest)) (λ e. cc)
-    (lacks_address (codes "tp_getset") (codes "tp_as_mapping") (codes "cyc_mp_") t.mapping (end_tokens ++ rest) (λ e. cc) (lacks_end (codes "tp_getset") rest));
+      lacks_address (codes "tp_getset") (codes "tp_as_sequence") (codes "cyc_sq_") t.sequence (mapping_tokens t ++ (end_tokens ++ rest)) (λ e. cc)
+      (lacks_address (codes "tp_getset") (codes "tp_as_mapping") (codes "cyc_mp_") t.mapping (end_tokens ++ rest) (λ e. cc) (lacks_end (codes "tp_getset") rest));
   sequence = lacks_address (codes "tp_as_sequence") (codes "tp_as_mapping") (codes "cyc_mp_") t.mapping (end_tokens ++ rest) (λ e. cc) (lacks_end (codes "tp_as_sequence") rest);
   mapping = lacks_end (codes "tp_as_mapping") rest;
 }

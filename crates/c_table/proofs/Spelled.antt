@@ -1,11 +1,10 @@
 -- The tokens of structs and tables are those of their spellings.
-use Rattle.std.proofs.Common.{◌≡◌, ℕ, List, [], ◌∷◌, ◌++◌, Some, refl, ap, sym, ◌∙◌}
+use Rattle.std.proofs.Common.{◌≡◌, ℕ, List, [], ◌∷◌, ◌++◌, Some, refl, ap, ◌∙◌}
 use Rattle.std.specs.Prelude.{Bool, Option, None, codes}
 use Rattle.std.specs.List.{flat_map}
 use Rattle.c_state.specs.CTokens.{CToken, Word, word, sign, c_tokens, tokens_from}
 use Rattle.c_tree.specs.declared.item.Base.{Base}
 use Rattle.c_tree.specs.declared.item.Base.TheVariants as base
-use Rattle.c_tree.specs.declared.item.CItem.{CItem}
 use Rattle.c_tree.specs.declared.item.CItem.TheVariants as item
 use Rattle.c_tree.specs.declared.item.MethodRow.{MethodRow}
 use Rattle.c_tree.specs.declared.item.PropertyRow.{PropertyRow}

@@ -1,5 +1,5 @@
 -- The tokens of type objects are those of their spellings.
-use Rattle.std.proofs.Common.{◌≡◌, List, [], ◌∷◌, ◌++◌, Some, refl, ap, sym, ◌∙◌, append_assoc}
+use Rattle.std.proofs.Common.{◌≡◌, List, [], ◌∷◌, ◌++◌, Some, refl, ap, ◌∙◌, append_assoc}
 use Rattle.std.specs.Prelude.{Bool, Option, None, codes}
 use Rattle.std.specs.List.{flat_map}
 use Rattle.std.proofs.lemmas.Grind.{flat_map-append}
@@ -12,7 +12,7 @@ use Rattle.c_tree.specs.Names.{listed, name_token, text}
 use Rattle.c_tree.specs.Values.{string}
 use Rattle.c_table.proofs.Lacking.{base_tokens, dealloc_tokens, init_tokens, mapping_tokens, methods_tokens, new_tokens, properties_tokens, sequence_tokens}
 use Rattle.c_table.specs.Parts.{assigned, assigned_address, end_tokens, member_tokens}
-use Rattle.c_table.specs.Tables.{functions_of, functions_tokens, item_tokens, named_tokens, sized_tokens, tables_of, tables_tokens}
+use Rattle.c_table.specs.Tables.{functions_of, functions_tokens, item_tokens, sized_tokens, tables_of, tables_tokens}
 
 -- members, each with the comma before it
 abbrev behind_commas : List (List CToken) → List CToken
@@ -94,7 +94,7 @@ unfolding c_tokens tokens_from
 end_spelled = refl
 
 first_spelled : (t : TypeObject) (all : List (List CToken)) (rest : List CToken) → listed (λ tokens. tokens)
-        ((text ".tp_name =" ++ (string t.name ∷ [])) ∷ (text ".tp_basicsize = sizeof(struct" ++ (name_token "cyc_o_" t.size ∷ text ")")) ∷ text ".tp_flags = Py_TPFLAGS_DEFAULT | Py_TPFLAGS_BASETYPE" ∷ all) ++ rest
+    ((text ".tp_name =" ++ (string t.name ∷ [])) ∷ (text ".tp_basicsize = sizeof(struct" ++ (name_token "cyc_o_" t.size ∷ text ")")) ∷ text ".tp_flags = Py_TPFLAGS_DEFAULT | Py_TPFLAGS_BASETYPE" ∷ all) ++ rest
     ≡ sign "." ∷ word "tp_name" ∷ sign "=" ∷ string t.name ∷ (sized_tokens t.size ++ (behind_commas all ++ rest))
 unfolding c_tokens tokens_from
 first_spelled t all rest = refl

@@ -34,7 +34,11 @@ fn only(member: Named, input: &mut Input) -> Option<Numbered>
     ensures some { Finds IsNumbered (λ n. member_tokens (dotted member.name.now) member.letters.now (Some n) ++ end_tokens) input.old result input.new }
     ensures every { ReadsEvery IsNumbered (λ n. member_tokens (dotted member.name.now) member.letters.now (Some n) ++ end_tokens) input.old result }
 {
-    if !input.fixed(&[Piece::Sign(b"."), Piece::Word(member.name), Piece::Sign(b"=")]) {
+    if !input.fixed(&[
+        Piece::Sign(b"."),
+        Piece::Word(member.name),
+        Piece::Sign(b"="),
+    ]) {
         return None;
     }
     let class = input.numbered(member.letters)?;
@@ -73,7 +77,11 @@ fn pair(
     ensures some { Finds (λ r. AreMembers r.0 r.1) (λ r. pair_tokens first.name.now first.letters.now second.name.now second.letters.now r.0 r.1) input.old result input.new }
     ensures every { first.name.now ≢ second.name.now → ReadsEvery (λ r. AreMembers r.0 r.1) (λ r. pair_tokens first.name.now first.letters.now second.name.now second.letters.now r.0 r.1) input.old result }
 {
-    let dotted = [Piece::Sign(b"."), Piece::Word(first.name), Piece::Sign(b"=")];
+    let dotted = [
+        Piece::Sign(b"."),
+        Piece::Word(first.name),
+        Piece::Sign(b"="),
+    ];
     let one = member(&dotted, first.letters, input)?;
     match one {
         Some(class) => {
@@ -99,8 +107,14 @@ pub fn sequence(is_static: bool, input: &mut Input) -> Option<CItem>
     if !input.fixed(&[Piece::Sign(b"="), Piece::Sign(b"{")]) {
         return None;
     }
-    let length = Named { name: b"sq_length", letters: b"cyc_len_" };
-    let contains = Named { name: b"sq_contains", letters: b"cyc_has_" };
+    let length = Named {
+        name: b"sq_length",
+        letters: b"cyc_len_",
+    };
+    let contains = Named {
+        name: b"sq_contains",
+        letters: b"cyc_has_",
+    };
     let (length, contains) = pair(length, contains, input)?;
     Some(CItem::Sequence(is_static, class, length, contains))
 }
@@ -117,8 +131,14 @@ pub fn mapping(is_static: bool, input: &mut Input) -> Option<CItem>
     if !input.fixed(&[Piece::Sign(b"="), Piece::Sign(b"{")]) {
         return None;
     }
-    let length = Named { name: b"mp_length", letters: b"cyc_len_" };
-    let subscript = Named { name: b"mp_subscript", letters: b"cyc_item_" };
+    let length = Named {
+        name: b"mp_length",
+        letters: b"cyc_len_",
+    };
+    let subscript = Named {
+        name: b"mp_subscript",
+        letters: b"cyc_item_",
+    };
     let (length, subscript) = pair(length, subscript, input)?;
     Some(CItem::Mapping(is_static, class, length, subscript))
 }

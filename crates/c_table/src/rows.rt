@@ -130,5 +130,9 @@ pub fn property(alloc: Global, input: &mut Input) -> Result<Option<PropertyRow>,
     let Some((getter, setter)) = accessors(input) else {
         return Ok(None);
     };
-    Ok(Some(PropertyRow { name, getter, setter }))
+    Ok(Some(PropertyRow {
+        name,
+        getter,
+        setter,
+    }))
 }

@@ -1,4 +1,4 @@
-use Rattle.std.proofs.Common.{◌≡◌, ◌++◌, ◌∷◌, [], List, Some, ℕ, ap, sym, ◌∙◌}
+use Rattle.std.proofs.Common.{◌≡◌, ◌++◌, List, Some, ℕ, ap, sym, ◌∙◌}
 use Rattle.std.specs.Prelude.{◌≢◌, None, Option}
 use Rattle.c_state.specs.CTokens.{CToken}
 use Rattle.c_tree.specs.declared.name.Numbered.{Numbered}

@@ -1,11 +1,10 @@
-use Rattle.std.proofs.Common.{◌≡◌, ◌++◌, ◌∷◌, [], List, Some, ℕ, ◌<◌, ◌^◌, ◌∙◌, arith}
+use Rattle.std.proofs.Common.{◌++◌, ◌∷◌, [], List, ◌<◌, ◌^◌, ◌∙◌, arith}
 use Rattle.std.specs.Prelude.{⊤, decimal, codes}
 use Rattle.c_state.specs.CTokens.{CToken, Word, sign}
 use Rattle.c_tree.specs.declared.value.CType.{CType}
 use Rattle.c_tree.specs.Names.{letter_token}
 use Rattle.c_tree.specs.Values.{type_spelling}
 use Rattle.c_tree.specs.Forms.{IsNumber}
-use Rattle.c_table.specs.Parts.{field_tokens}
 use Rattle.c_table.proofs.Steps.{assoc, next, some_same}
 use Rattle.c_table.proofs.parts.field.Goals as goal
 

@@ -1,4 +1,4 @@
-use Rattle.std.proofs.Common.{◌≡◌, ◌∷◌, []}
+use Rattle.std.proofs.Common.{◌∷◌, []}
 use Rattle.c_state.specs.CTokens.{sign}
 use Rattle.c_tree.specs.Forms.{IsString}
 use Rattle.c_tree.specs.Values.{string}

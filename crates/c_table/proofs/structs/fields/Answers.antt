@@ -1,8 +1,6 @@
-use Rattle.std.proofs.Common.{◌≡◌, ◌++◌, ◌∷◌, ◌<◌, ◌+◌, ◌^◌, [], suc, List, Some, length, refl, sym, subst, ap, ◌∙◌, arith}
-use Rattle.std.specs.Prelude.{◌≢◌, None}
-use Rattle.c_state.specs.CTokens.{CToken}
+use Rattle.std.proofs.Common.{◌≡◌, ◌<◌, ◌+◌, ◌^◌, suc, List, Some, length, refl, sym, subst, ap, ◌∙◌, arith}
+use Rattle.std.specs.Prelude.{None}
 use Rattle.c_tree.specs.declared.value.CType.{CType}
-use Rattle.c_table.specs.Parts.{end_tokens}
 use Rattle.c_table.proofs.Fields.{fields_end, fields_read, fields_step, moved, no_field, one_longer, AreRead}
 use Rattle.c_table.proofs.structs.fields.Goals as goal
 

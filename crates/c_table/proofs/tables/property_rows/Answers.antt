@@ -1,4 +1,4 @@
-use Rattle.std.proofs.Common.{◌≡◌, ◌++◌, ◌∷◌, [], List, Some, refl, sym, subst, ap, ◌∙◌}
+use Rattle.std.proofs.Common.{◌++◌, List, Some, refl, sym, subst, ap, ◌∙◌}
 use Rattle.std.specs.List.{flat_map}
 use Rattle.c_tree.specs.Forms.{IsProperty}
 use Rattle.c_tree.specs.declared.item.PropertyRow.{PropertyRow}

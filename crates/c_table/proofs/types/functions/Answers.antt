@@ -1,4 +1,4 @@
-use Rattle.std.proofs.Common.{◌≡◌, ◌++◌, ◌∷◌, [], List, Some, ◌∙◌}
+use Rattle.std.proofs.Common.{◌++◌, Some, ◌∙◌}
 use Rattle.std.specs.Prelude.{codes}
 use Rattle.c_tree.specs.Forms.{IsMember}
 use Rattle.c_table.specs.Parts.{assigned, assigned_address, member_tokens}
