@@ -1,0 +1,5 @@
+//! Items, read from their tokens.
+#![tactic(auto)]
+
+mod fixed;
+mod typed;
