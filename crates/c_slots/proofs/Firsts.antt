@@ -1,5 +1,5 @@
 -- What stands first in slots, functions and layers, and their parts.
-use Rattle.std.proofs.Common.{◌≡◌, ℕ, suc, List, [], ◌∷◌, ◌++◌, drop, length, Some, refl, sym, ap, ◌∙◌}
+use Rattle.std.proofs.Common.{◌≡◌, ℕ, zero, suc, List, [], ◌∷◌, ◌++◌, drop, length, Some, refl, sym, ap, ◌∙◌}
 use Rattle.std.specs.Prelude.{slice_get, replicate}
 use Rattle.std.specs.List.{flat_map}
 use Rattle.std.proofs.lemmas.List.{append_assoc}
@@ -52,9 +52,15 @@ pub layers_close : (more : List (List FunctionName)) (after : List CToken) → E
 layers_close [] after h = h.0
 layers_close (m ∷ more) after h = refl
 
+closing_apart : Some (sign "}") ≡ Some (sign ";") → ⊥
+closing_apart e = cc
+
+comma_apart : Some (sign ",") ≡ Some (sign ";") → ⊥
+comma_apart e = cc
+
 second : (fs : List FunctionName) (ys : List CToken) → Closes ys → slice_get (layer_tokens fs ++ ys) 1 ≡ Some (sign ";") → ⊥
-second [] ys h e = cc
-second (f ∷ fs) ys h e = cc
+second [] ys h e = closing_apart (sym h ∙ e)
+second (f ∷ fs) ys h e = comma_apart e
 
 pub layer_no_end : (rest : List CToken) (fs : List FunctionName) (more : List (List FunctionName)) (after : List CToken)
     → slice_get rest 1 ≡ Some (sign ";") → EndsTable after → rest ≡ layer_tokens fs ++ (flat_map layer_tokens more ++ after) → ⊥
@@ -95,6 +101,9 @@ table_parts t rest =
 
 -- ---- braces
 
+pub string_apart : (bytes : List ℕ) → Some (sign "{") ≡ Some (string bytes) → ⊥
+string_apart bytes e = cc
+
 pub record AreBraces (count other : ℕ) (new rest : List CToken) : Type 0 where
   pub number : count ≡ other
   pub left : new ≡ rest
@@ -102,9 +111,9 @@ pub record AreBraces (count other : ℕ) (new rest : List CToken) : Type 0 where
 -- as many braces stand before what begins with none
 pub braces_once : (count other : ℕ) (new rest : List CToken) → (Some (sign "{") ≡ slice_get new 0 → ⊥) → (Some (sign "{") ≡ slice_get rest 0 → ⊥)
     → replicate count (sign "{") ++ new ≡ replicate other (sign "{") ++ rest → AreBraces count other new rest
-braces_once 0 0 new rest a b e = record { number = refl; left = e }
-braces_once 0 (suc other) new rest a b e = absurd (a (sym (ap (λ t. slice_get t 0) e)))
-braces_once (suc count) 0 new rest a b e = absurd (b (ap (λ t. slice_get t 0) e))
+braces_once zero zero new rest a b e = record { number = refl; left = e }
+braces_once zero (suc other) new rest a b e = absurd (a (sym (ap (λ t. slice_get t 0) e)))
+braces_once (suc count) zero new rest a b e = absurd (b (ap (λ t. slice_get t 0) e))
 braces_once (suc count) (suc other) new rest a b e =
     let r = braces_once count other new rest a b (ap (drop 1) e) in
     record { number = ap (λ n. suc n) r.number; left = r.left }

@@ -25,7 +25,7 @@ told j [] f e = tt
 told j (s ∷ slots) f e =
     let parts = both (nat_eq s.number j) (are_numbered_from (suc j) slots) e in
     let same : s.number ≡ j = eqb-true s.number j parts.0 in
-    (same, (subst (λ n. IsNumber n) same f.0, told (suc j) slots f.1 parts.1))
+    (same, subst (λ n. IsNumber n) same f.0, told (suc j) slots f.1 parts.1)
 
 pub tells : (j : ℕ) (slots : List Slot) → AreNumberedFrom j slots → are_numbered_from j slots ≡ true
 tells j [] h = refl

@@ -1,11 +1,14 @@
 -- What is left behind a tree that was read where it stood.
-use Rattle.std.proofs.Common.{◌≡◌, List, ◌++◌, Some, None, sym, ap, ◌∙◌}
+use Rattle.std.proofs.Common.{◌≡◌, Bool, true, false, List, ◌++◌, Some, None, sym, ap, ◌∙◌}
 use Rattle.std.specs.Prelude.{Option}
 use Rattle.c_state.specs.CTokens.{CToken}
 use Rattle.c_input.proofs.Rows.{same_left}
 
 pub value_of : {A : Type 0} {a b : A} → Some a ≡ Some b → a ≡ b
 value_of e = cc
+
+pub never : false ≡ true → ⊥
+never e = cc
 
 pub lost : {A : Type 0} {r : Option A} {a : A} → r ≡ None → r ≡ Some a → ⊥
 lost e f = cc
