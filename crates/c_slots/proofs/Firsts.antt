@@ -13,13 +13,11 @@ use Rattle.c_tree.specs.declared.value.CType.TheVariants as type
 use Rattle.c_tree.specs.Items.{behind, types_spelling}
 use Rattle.c_tree.specs.Names.{letter_token, name_token}
 use Rattle.c_tree.specs.Values.{result_spelling, string}
-use Rattle.c_slots.specs.declared.slot.SlotHead.{SlotHead}
-use Rattle.c_slots.specs.declared.structs.Opened.{Opened}
 use Rattle.c_slots.specs.declared.structs.TableStruct.{TableStruct}
 use Rattle.c_slots.specs.declared.tables.TableHead.{TableHead}
 use Rattle.c_slots.specs.declared.tables.TableValue.{TableValue}
 use Rattle.c_slots.specs.Slots.{base_tokens, head_tokens, opened_tokens, slot_tokens, table_struct_tokens, Closes}
-use Rattle.c_slots.specs.Tables.{layer_tokens, method_table_tokens, table_head_tokens, value_tokens, EndsTable}
+use Rattle.c_slots.specs.Tables.{layer_tokens, method_table_tokens, table_head_tokens, value_tokens, EndsTable, IsMethodTable, IsTableHead, IsValue}
 
 -- ---- first tokens
 
@@ -117,3 +115,21 @@ braces_once (suc count) zero new rest a b e = absurd (b (ap (λ t. slice_get t 0
 braces_once (suc count) (suc other) new rest a b e =
     let r = braces_once count other new rest a b (ap (drop 1) e) in
     record { number = ap (λ n. suc n) r.number; left = r.left }
+
+-- ---- a whole table
+
+abbrev pub table_of : TableHead → TableValue → StructTable
+table_of h v = record { class = h.first; name = v.name; inner = v.inner; outer = v.outer }
+
+pub table_joins : (h : TableHead) (v : TableValue) (count : ℕ) (old behind_head behind_braces new : List CToken)
+    → h.first ≡ h.second → count ≡ suc (length v.outer) → IsTableHead h → IsValue v
+    → old ≡ table_head_tokens h ++ behind_head → behind_head ≡ replicate count (sign "{") ++ behind_braces → behind_braces ≡ value_tokens v ++ new
+    → IsMethodTable (table_of h v) × (old ≡ method_table_tokens (table_of h v) ++ new)
+table_joins h v count old behind_head behind_braces new same number head value a b d =
+    let one : TableHead = record { first = h.first; second = h.first } in
+    let twice : table_head_tokens h ≡ table_head_tokens one = ap (λ s. table_head_tokens (record { first = h.first; second = s })) (sym same) in
+    let e : behind_head ≡ replicate (suc (length v.outer)) (sign "{") ++ (value_tokens v ++ new) =
+    b ∙ (ap (λ n. replicate n (sign "{") ++ behind_braces) number ∙ ap (λ t. replicate (suc (length v.outer)) (sign "{") ++ t) d) in (
+      (head.0, value.0, value.1, value.2),
+      a ∙ (ap (λ t. t ++ behind_head) twice ∙ (ap (λ t. table_head_tokens one ++ t) e ∙ sym (table_parts (table_of h v) new))),
+    )

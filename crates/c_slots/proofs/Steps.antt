@@ -1,5 +1,5 @@
 -- What is left behind a tree that was read where it stood.
-use Rattle.std.proofs.Common.{◌≡◌, Bool, true, false, List, ◌++◌, Some, None, sym, ap, ◌∙◌}
+use Rattle.std.proofs.Common.{◌≡◌, true, false, List, ◌++◌, Some, None, sym, ap, ◌∙◌}
 use Rattle.std.specs.Prelude.{Option}
 use Rattle.c_state.specs.CTokens.{CToken}
 use Rattle.c_input.proofs.Rows.{same_left}

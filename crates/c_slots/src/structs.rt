@@ -43,10 +43,7 @@ fn start(input: &mut Input) -> Option<Opened>
 }
 
 /// Reads `struct cyc_vt_0_1 { BASE R (*m0)(T, ..); .. };`.
-pub fn table_struct(
-    alloc: Global,
-    input: &mut Input,
-) -> Result<Option<TableStruct>, OutOfMemory>
+pub fn table_struct(alloc: Global, input: &mut Input) -> Result<Option<TableStruct>, OutOfMemory>
     ensures some { IfOk result (λ found. Finds IsTableStruct table_struct_tokens input.old found input.new) }
     ensures every { IfOk result (λ found. ReadsEvery IsTableStruct table_struct_tokens input.old found) }
 {

@@ -1,4 +1,4 @@
-use Rattle.std.proofs.Common.{◌≡◌, List, Some, refl, sym, ap, subst, ◌∙◌}
+use Rattle.std.proofs.Common.{List, Some, refl, sym, ap, subst, ◌∙◌}
 use Rattle.c_tree.specs.declared.name.FunctionName.{FunctionName}
 use Rattle.c_input.proofs.Lists.{read_end_within, read_missed, read_step, IsRead, ReadsItem}
 use Rattle.c_slots.specs.Tables.{layer_tokens, AreFunctions, EndsTable}

@@ -1,4 +1,4 @@
-use Rattle.std.proofs.Common.{◌≡◌, ap, sym, ◌∙◌}
+use Rattle.std.proofs.Common.{ap, sym, ◌∙◌}
 use Rattle.c_slots.specs.Slots.{are_numbered_from}
 use Rattle.c_slots.proofs.Numbers.{numbered}
 use Rattle.c_slots.proofs.numbering.are_slots.Goals as goal

@@ -1,4 +1,4 @@
-use Rattle.std.proofs.Common.{◌≡◌, ◌∷◌, Some, sym, ap, ◌∙◌}
+use Rattle.std.proofs.Common.{◌∷◌, Some, ◌∙◌}
 use Rattle.std.specs.Prelude.{⊤}
 use Rattle.c_state.specs.CTokens.{sign}
 use Rattle.c_tree.specs.Items.{types_spelling}

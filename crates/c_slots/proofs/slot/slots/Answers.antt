@@ -1,4 +1,4 @@
-use Rattle.std.proofs.Common.{◌≡◌, List, Some, refl, sym, ap, subst, ◌∙◌}
+use Rattle.std.proofs.Common.{List, Some, refl, sym, ap, subst, ◌∙◌}
 use Rattle.c_tree.specs.declared.item.Slot.{Slot}
 use Rattle.c_input.proofs.Lists.{item_every, read_end, read_missed, read_step, IsRead}
 use Rattle.c_slots.specs.Slots.{slot_tokens, Closes, IsSlot}

@@ -1,4 +1,4 @@
-use Rattle.std.proofs.Common.{◌≡◌, ◌≤◌, ◌-◌, ◌+◌, ◌++◌, length}
+use Rattle.std.proofs.Common.{◌≡◌, ◌≤◌, ◌-◌, ◌++◌, length}
 use Rattle.std.specs.Prelude.{replicate}
 use Rattle.c_state.specs.CTokens.{sign}
 use Rattle.c_slots.proofs.tables.braces.Given as goal

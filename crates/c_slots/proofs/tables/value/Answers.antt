@@ -1,4 +1,4 @@
-use Rattle.std.proofs.Common.{◌≡◌, ◌∷◌, ◌++◌, [], List, ℕ, Some, refl, ◌∙◌}
+use Rattle.std.proofs.Common.{◌∷◌, ◌++◌, [], List, ℕ, Some, refl, ◌∙◌}
 use Rattle.std.specs.List.{flat_map, AllByRecursion}
 use Rattle.c_state.specs.CTokens.{CToken, sign}
 use Rattle.c_tree.specs.Forms.{IsString}
