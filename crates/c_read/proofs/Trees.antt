@@ -39,14 +39,14 @@ length_more [] x = refl
 length_more (y ∷ xs) x = ap (λ n. suc n) (length_more xs x)
 
 pub front_starts : (items : List (List CToken)) → IsFront items [] items
-front_starts items = record { joins = λ trees whole r. r; every = λ trees whole r. record { more = trees; is = refl; reads = r }; count = refl; form = tt }
+front_starts items = record { joins = λ trees whole r. r; every = λ trees whole r. record { more = trees; is = refl; reads = r }; count = omega arith; form = tt }
 
 pub front_steps : (items : List (List CToken)) (read : List CItem) (tokens : List CToken) (rest : List (List CToken)) (tree : CItem)
     → IsFront items read (tokens ∷ rest) → IsItem tree → item_spelling tree ≡ tokens → ((t : CItem) → IsItem t → item_spelling t ≡ tokens → tree ≡ t)
     → IsFront items (read ++ tree ∷ []) rest
 unfolding IsReading
 front_steps items read tokens rest tree h form e same = record {
-  joins = λ trees whole r. subst (λ (t : List CItem). IsReading items t whole) (sym (append_assoc read (tree ∷ []) trees)) (h.joins (tree ∷ trees) whole (form, (e, r)));
+  joins = λ trees whole r. subst (λ (t : List CItem). IsReading items t whole) (sym (append_assoc read (tree ∷ []) trees)) (h.joins (tree ∷ trees) whole (form, e, r));
   every = λ trees whole r. go trees whole (h.every trees whole r);
   count = counted;
   form = one_more read tree h.form form;
@@ -59,8 +59,8 @@ front_steps items read tokens rest tree h form e same = record {
     left trees whole [] is r = absurd (r.1 tree form e)
     left trees whole (t ∷ more) is r = record {
       more = more;
-      is = is ∙ (ap (λ z. read ++ z ∷ more) (sym (same t r.0 r.1.0)) ∙ sym (append_assoc read (tree ∷ []) more));
-      reads = r.1.1;
+      is = is ∙ (ap (λ z. read ++ z ∷ more) (sym (same t r.0 r.1)) ∙ sym (append_assoc read (tree ∷ []) more));
+      reads = r.2;
     }
 
     go : (trees : List CItem) (whole : Bool) → Remains (tokens ∷ rest) read trees whole → Remains rest (read ++ tree ∷ []) trees whole
@@ -102,4 +102,4 @@ stop_every items read tokens rest h none trees whole r = let m = h.every trees w
   where
     go : (more : List CItem) → trees ≡ read ++ more → IsReading (tokens ∷ rest) more whole → IsCut read trees whole
     go [] is e = record { same = sym (is ∙ append_nil read); ends = e.0 }
-    go (t ∷ more) is e = absurd (none t e.0 e.1.0)
+    go (t ∷ more) is e = absurd (none t e.0 e.1)
