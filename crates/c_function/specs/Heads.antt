@@ -1,6 +1,6 @@
 -- Heads of functions, told token by token. The project's own profile of C (Python/C API manual, "Common Object
 -- Structures", "Type Objects", "Initializing C modules").
-use Rattle.std.specs.Prelude.{◌≡◌, ◌≢◌, ⊤, List, [], ◌∷◌, ◌++◌, Option, Some, None}
+use Rattle.std.specs.Prelude.{◌≡◌, ◌≢◌, ⊤, ℕ, List, [], ◌∷◌, ◌++◌, Option, Some, None}
 use Rattle.c_state.specs.CTokens.{CToken, word, sign}
 use Rattle.c_tree.specs.declared.item.CHead.{CHead}
 use Rattle.c_tree.specs.declared.item.CHead.TheVariants as head
@@ -94,6 +94,11 @@ function_of (head.Getter f) = function.Getter f
 function_of (head.Setter f) = function.Setter f
 function_of head.Body = function.Body
 function_of (head.Initializer name) = function.Initializer name
+
+-- what a module's initialisation is named after
+abbrev pub initialized_name : FunctionName → Option (List ℕ)
+initialized_name (function.Initializer name) = Some name
+initialized_name _ = None
 
 -- `(PyObject *self)`
 abbrev pub self_parameter : List CToken

@@ -4,7 +4,7 @@ ghost use Rattle.c_state.specs.CTokens.{Word};
 ghost use Rattle.c_tree.specs.Forms.{IsHead, IsIdentifier};
 ghost use Rattle.c_tree.specs.Items.{function_token, head_spelling};
 ghost use Rattle.c_input.specs.Reads.{Finds, ReadsEvery};
-ghost use Rattle.c_function.specs.Heads.{named, plain_function, plain_head_of, IsInitializer, IsPlainHead, IsPlainName};
+ghost use Rattle.c_function.specs.Heads.{initialized_name, named, plain_function, plain_head_of, IsInitializer, IsPlainHead, IsPlainName};
 
 use crate::fixed::static_head;
 use crate::listing::parameters;
@@ -60,6 +60,16 @@ fn plain_head(alloc: Global, input: &mut Input) -> Result<Option<CHead>, OutOfMe
     Ok(Some(plain(name, given, parameters)))
 }
 
+// What a module's initialisation is named after.
+fn name_of(function: FunctionName) -> Option<Bytes>
+    ensures { result ≡ initialized_name function }
+{
+    match function {
+        FunctionName::Initializer(name) => Some(name),
+        _ => None,
+    }
+}
+
 // The name behind `PyInit_`.
 fn initialized(alloc: Global, input: &mut Input) -> Result<Option<Bytes>, OutOfMemory>
     ensures some { IfOk result (λ found. Finds IsIdentifier (λ name. Word (codes "PyInit_" ++ name) ∷ []) input.old found input.new) }
@@ -69,8 +79,8 @@ fn initialized(alloc: Global, input: &mut Input) -> Result<Option<Bytes>, OutOfM
         return Ok(None);
     };
     match c_word::function(alloc, word)? {
-        Some(FunctionName::Initializer(name)) => Ok(Some(name)),
-        _ => Ok(None),
+        Some(found) => Ok(name_of(found)),
+        None => Ok(None),
     }
 }
 
