@@ -1,6 +1,6 @@
 -- Trees one behind another in a list of tokens.
-use Rattle.std.proofs.Common.{◌≡◌, List, [], ◌∷◌, ◌++◌, Bool, true, false, Some, refl, sym, ap, ◌∙◌}
-use Rattle.std.specs.Prelude.{None, Option}
+use Rattle.std.proofs.Common.{◌≡◌, List, [], ◌∷◌, ◌++◌, Bool, true, false, ℕ, Some, refl, sym, ap, ◌∙◌}
+use Rattle.std.specs.Prelude.{None, Option, nat_eq}
 use Rattle.std.proofs.lemmas.Bool.{false≢true}
 use Rattle.std.proofs.lemmas.List.{append_assoc}
 use Rattle.c_state.specs.CTokens.{CToken, sign, word, c_tokens, tokens_from}
@@ -15,6 +15,7 @@ use Rattle.c_tree.specs.declared.statement.Extent.TheVariants as extent
 use Rattle.c_tree.specs.Statements.{extent_name, number_spelling, view}
 use Rattle.c_input.specs.Reads.{Finds}
 use Rattle.c_input.proofs.Rows.{next_one}
+use Rattle.c_statement.specs.declared.statement_kind.StatementKind.TheVariants as kind
 use Rattle.c_statement.specs.Seen.{sign_at, word_at}
 use Rattle.c_statement.specs.Sources.{end}
 
@@ -65,3 +66,36 @@ view_word (place.Field p) more = refl
 
 pub no_view : (v : ViewPlace) (more : List CToken) {old : List CToken} {b : Bool} → old ≡ view v ++ (sign "." ∷ more) → b ≡ word_at "char" 1 old → b ≡ true → ⊥
 no_view v more e seen is = false≢true (sym (view_word v more) ∙ (ap (word_at "char" 1) (sym e) ∙ (sym seen ∙ is)))
+
+pub equals_apart : {xs ys : List CToken} → sign "=" ∷ xs ≡ sign "." ∷ ys → ⊥
+equals_apart e = false≢true (sym (ap (sign_at "=" 0) e))
+
+-- ---- kinds of statements that differ
+
+abbrev pub number_of : kind.the_data → ℕ
+number_of kind.Goto = 0
+number_of kind.Return = 1
+number_of kind.Element = 2
+number_of kind.Method = 3
+number_of kind.Table = 4
+number_of kind.Place = 5
+number_of kind.Assigned = 6
+number_of kind.Free = 7
+number_of kind.Call = 8
+
+abbrev pub same_kind : kind.the_data → kind.the_data → Bool
+same_kind a b = nat_eq (number_of a) (number_of b)
+
+same_refl : (a : kind.the_data) → same_kind a a ≡ true
+same_refl kind.Goto = refl
+same_refl kind.Return = refl
+same_refl kind.Element = refl
+same_refl kind.Method = refl
+same_refl kind.Table = refl
+same_refl kind.Place = refl
+same_refl kind.Assigned = refl
+same_refl kind.Free = refl
+same_refl kind.Call = refl
+
+pub kind_apart : {a b : kind.the_data} → a ≡ b → same_kind a b ≡ false → ⊥
+kind_apart {b = b} e d = false≢true (sym d ∙ (ap (λ k. same_kind k b) e ∙ same_refl b))

@@ -1,4 +1,7 @@
+pub mod Behind
 pub mod Chain
 pub mod FirstTokens
-pub mod Behind
+pub mod Putting
+pub mod Spelt
+pub mod Starts
 pub mod Told

@@ -1,3 +1,4 @@
 pub mod Seen
 pub mod Sources
 pub mod Stores
+pub mod Statements

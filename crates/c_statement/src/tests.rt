@@ -41,7 +41,7 @@ fn compared(input: &mut Input) -> Option<Numbered>
 }
 
 // A variable as the argument of the function with this name.
-fn passed(input: &mut Input, name: &'static [u8]) -> Option<Variable>
+pub fn passed(input: &mut Input, name: &'static [u8]) -> Option<Variable>
     ensures some { Finds IsVariable (passed_tokens name.now) input.old result input.new }
     ensures every { ReadsEvery IsVariable (passed_tokens name.now) input.old result }
 {
@@ -56,7 +56,7 @@ fn passed(input: &mut Input, name: &'static [u8]) -> Option<Variable>
     }
 }
 
-fn same(first: Variable, second: Variable) -> bool
+pub fn same(first: Variable, second: Variable) -> bool
     ensures { (result ≡ true) ↔ (first ≡ second) }
 {
     first == second
