@@ -201,5 +201,14 @@ fn test_end(input: &mut Input) -> bool
 pub fn format_test(input: &mut Input) -> bool
     ensures { Passes test_tokens input.old result input.new }
 {
-    test_head(input) && test_null(input) && test_mark(input) && test_end(input)
+    if !test_head(input) {
+        return false;
+    }
+    if !test_null(input) {
+        return false;
+    }
+    if !test_mark(input) {
+        return false;
+    }
+    test_end(input)
 }

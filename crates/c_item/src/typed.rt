@@ -110,13 +110,13 @@ pub fn typed(
         return Ok(None);
     };
     if input.sees(Piece::Sign(b";"), 1) {
-        return Ok(match place(input) {
-            Some(place) => variable(is_static, result_type, place),
-            None => None,
-        });
+        let Some(place) = place(input) else {
+            return Ok(None);
+        };
+        return Ok(variable(is_static, result_type, place));
     }
-    match signature(alloc, input)? {
-        Some((name, kinds)) => Ok(prototype(is_static, result_type, name, kinds)),
-        None => Ok(None),
-    }
+    let Some((name, kinds)) = signature(alloc, input)? else {
+        return Ok(None);
+    };
+    Ok(prototype(is_static, result_type, name, kinds))
 }

@@ -3,5 +3,5 @@ mod Fields
 mod Lacking
 mod Parted
 pub mod Spelled
-mod Steps
+pub mod Steps
 pub mod TypeSpelled
