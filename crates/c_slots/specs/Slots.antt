@@ -10,7 +10,7 @@ use Rattle.c_tree.specs.Items.{types_spelling}
 use Rattle.c_tree.specs.Names.{letter_token, name_token}
 use Rattle.c_tree.specs.Values.{result_spelling}
 use Rattle.c_slots.specs.declared.slot.SlotHead.{SlotHead}
-use Rattle.c_slots.specs.declared.structs.Start.{Start}
+use Rattle.c_slots.specs.declared.structs.Opened.{Opened}
 use Rattle.c_slots.specs.declared.structs.TableStruct.{TableStruct}
 
 abbrev pub IsSlot : Slot → Type 0
@@ -59,9 +59,9 @@ head_tokens h = result_spelling h.result ++ (sign "(" ∷ sign "*" ∷ letter_to
 abbrev pub ReadsSlots : List CToken → Option (List Slot) → Type 0
 ReadsSlots old found = (slots : List Slot) (rest : List CToken) → AllByRecursion IsSlot slots → Closes rest → old ≡ flat_map slot_tokens slots ++ rest → found ≡ Some slots
 
-abbrev pub IsStart : Start → Type 0
-IsStart s = IsNumbered s.class × IsTableBase s.base
+abbrev pub IsOpened : Opened → Type 0
+IsOpened s = IsNumbered s.class × IsTableBase s.base
 
 -- `struct cyc_vt_0_1 { BASE`
-abbrev pub start_tokens : Start → List CToken
-start_tokens s = word "struct" ∷ name_token "cyc_vt_" s.class ∷ sign "{" ∷ base_tokens s.base
+abbrev pub opened_tokens : Opened → List CToken
+opened_tokens s = word "struct" ∷ name_token "cyc_vt_" s.class ∷ sign "{" ∷ base_tokens s.base

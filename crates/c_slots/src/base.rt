@@ -7,7 +7,7 @@ use c_input::{Input, Piece};
 use c_tree::TableBase;
 
 /// Reads `const char *name;` or `struct cyc_vt_0_1 b;`.
-pub fn base(input: &mut Input) -> Option<TableBase>
+pub fn table_base(input: &mut Input) -> Option<TableBase>
     ensures some { Finds IsTableBase base_tokens input.old result input.new }
     ensures every { ReadsEvery IsTableBase base_tokens input.old result }
 {

@@ -15,10 +15,7 @@ use sqlite_items::Items;
 use std::alloc::Global;
 
 // `, cyc_f_0_1`
-fn function_behind(
-    alloc: Global,
-    input: &mut Input,
-) -> Result<Option<FunctionName>, OutOfMemory>
+fn function_behind(alloc: Global, input: &mut Input) -> Result<Option<FunctionName>, OutOfMemory>
     ensures some { IfOk result (λ found. Finds IsFunctionName behind_comma input.old found input.new) }
     ensures every { IfOk result (λ found. ReadsEvery IsFunctionName behind_comma input.old found) }
 {
@@ -50,10 +47,7 @@ pub fn functions_behind(
 }
 
 // `}`, and the functions behind it
-fn layer(
-    alloc: Global,
-    input: &mut Input,
-) -> Result<Option<Items<FunctionName>>, OutOfMemory>
+fn layer(alloc: Global, input: &mut Input) -> Result<Option<Items<FunctionName>>, OutOfMemory>
     ensures some { IfOk result (λ found. Finds AreFunctions layer_tokens input.old found input.new) }
     ensures every { IfOk result (λ found. ReadsLayer input.old found) }
 {

@@ -6,10 +6,10 @@ ghost use Rattle.c_tree.specs.Forms.{AreSlots};
 
 use c_tree::{Slot, TableBase};
 
-fn are_numbered_from(first: u64, slots: &[Slot]) -> bool
+fn are_numbered_from(first: u32, slots: &[Slot]) -> bool
     ensures { result ≡ are_numbered_from first slots.now }
 {
-    let mut number = first;
+    let mut number = u64::from(first);
     for slot in slots {
         if u64::from(slot.number) != number {
             return false;
@@ -19,11 +19,11 @@ fn are_numbered_from(first: u64, slots: &[Slot]) -> bool
     true
 }
 
-fn first_number(base: TableBase, slots: &[Slot]) -> u64
+fn first_number(base: TableBase, slots: &[Slot]) -> u32
     ensures { result ≡ first_number base slots.now }
 {
     match (base, slots) {
-        (TableBase::Class(_), [slot, ..]) => u64::from(slot.number),
+        (TableBase::Class(_), [slot, ..]) => slot.number,
         _ => 0,
     }
 }

@@ -12,6 +12,7 @@ use sqlite_items::Items;
 use std::alloc::Global;
 
 // `R (*m0)`
+#[derive(Clone, Copy)]
 struct SlotHead {
     result: CResult,
     number: u32,

@@ -1,9 +1,9 @@
 //! Structs of method tables.
 ghost use Rattle.std.specs.Prelude.{IfOk};
 ghost use Rattle.c_input.specs.Reads.{Finds, ReadsEvery};
-ghost use Rattle.c_slots.specs.Slots.{start_tokens, table_struct_tokens, IsStart, IsTableStruct};
+ghost use Rattle.c_slots.specs.Slots.{opened_tokens, table_struct_tokens, IsOpened, IsTableStruct};
 
-use crate::base::base;
+use crate::base::table_base;
 use crate::numbering::are_slots;
 use crate::slot::slots;
 use c_input::{Input, Piece};
@@ -21,14 +21,15 @@ pub struct TableStruct {
 }
 
 // `struct cyc_vt_0_1 { BASE`
-struct Start {
+#[derive(Clone, Copy)]
+struct Opened {
     class: Numbered,
     base: TableBase,
 }
 
-fn start(input: &mut Input) -> Option<Start>
-    ensures some { Finds IsStart start_tokens input.old result input.new }
-    ensures every { ReadsEvery IsStart start_tokens input.old result }
+fn start(input: &mut Input) -> Option<Opened>
+    ensures some { Finds IsOpened opened_tokens input.old result input.new }
+    ensures every { ReadsEvery IsOpened opened_tokens input.old result }
 {
     if !input.fixed(&[Piece::Word(b"struct")]) {
         return None;
@@ -37,15 +38,12 @@ fn start(input: &mut Input) -> Option<Start>
     if !input.fixed(&[Piece::Sign(b"{")]) {
         return None;
     }
-    let base = base(input)?;
-    Some(Start { class, base })
+    let base = table_base(input)?;
+    Some(Opened { class, base })
 }
 
 /// Reads `struct cyc_vt_0_1 { BASE R (*m0)(T, ..); .. };`.
-pub fn table_struct(
-    alloc: Global,
-    input: &mut Input,
-) -> Result<Option<TableStruct>, OutOfMemory>
+pub fn table_struct(alloc: Global, input: &mut Input) -> Result<Option<TableStruct>, OutOfMemory>
     ensures some { IfOk result (λ found. Finds IsTableStruct table_struct_tokens input.old found input.new) }
     ensures every { IfOk result (λ found. ReadsEvery IsTableStruct table_struct_tokens input.old found) }
 {

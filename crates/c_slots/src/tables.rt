@@ -1,5 +1,5 @@
 //! Method tables.
-ghost use Rattle.std.specs.Prelude.{IfOk};
+ghost use Rattle.std.specs.Prelude.{◌≡◌, ◌↔◌, suc, length, true, IfOk};
 ghost use Rattle.c_input.specs.Reads.{Finds, ReadsEvery};
 ghost use Rattle.c_slots.specs.Tables.{method_table_tokens, table_head_tokens, value_tokens, IsMethodTable, IsTableHead, IsValue, ReadsBraces};
 
@@ -12,6 +12,7 @@ use sqlite_items::Items;
 use std::alloc::Global;
 
 // The class of the struct, and that of the table.
+#[derive(Clone, Copy)]
 struct TableHead {
     first: Numbered,
     second: Numbered,
@@ -74,11 +75,15 @@ fn value(alloc: Global, input: &mut Input) -> Result<Option<TableValue>, OutOfMe
     }
 }
 
+// Whether the head names one class, and a brace stands for each table.
+fn fits(head: TableHead, count: usize, value: &TableValue) -> bool
+    ensures { (result ≡ true) ↔ ((head.first ≡ head.second) × (count ≡ suc (length value.now.outer))) }
+{
+    head.first == head.second && count > 0 && value.outer.len() == count - 1
+}
+
 /// Reads `const struct cyc_vt_0_1 cyc_t_0_1 = { .. };`.
-pub fn method_table(
-    alloc: Global,
-    input: &mut Input,
-) -> Result<Option<StructTable>, OutOfMemory>
+pub fn method_table(alloc: Global, input: &mut Input) -> Result<Option<StructTable>, OutOfMemory>
     ensures some { IfOk result (λ found. Finds IsMethodTable method_table_tokens input.old found input.new) }
     ensures every { IfOk result (λ found. ReadsEvery IsMethodTable method_table_tokens input.old found) }
 {
@@ -89,7 +94,7 @@ pub fn method_table(
     let Some(value) = value(alloc, input)? else {
         return Ok(None);
     };
-    if head.first != head.second || count != value.outer.len() + 1 {
+    if !fits(head, count, &value) {
         return Ok(None);
     }
     Ok(Some(StructTable {
