@@ -2,6 +2,7 @@
 #![tactic(auto)]
 
 mod assigned;
+mod body;
 mod buffers;
 mod calls;
 mod jumps;
@@ -17,4 +18,5 @@ mod store;
 mod tests;
 mod written;
 
+pub use body::{line, lines};
 pub use statements::statement;
