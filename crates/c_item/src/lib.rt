@@ -1,5 +1,8 @@
 //! Items, read from their tokens.
 #![tactic(auto)]
 
+mod declared;
 mod fixed;
+mod kinds;
+mod opening;
 mod typed;
