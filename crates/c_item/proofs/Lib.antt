@@ -1,3 +1,4 @@
+mod Openings
 mod Passing
 mod Results
 mod Typing

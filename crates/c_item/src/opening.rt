@@ -5,6 +5,7 @@ ghost use Rattle.c_item.specs.Words.{has_table_letter, lone, opening_at, struct_
 
 use crate::kinds::{Opening, Plain, Table};
 use c_cut::Token;
+use c_input::Input;
 
 // What a word that is no `struct` opens.
 fn word_opening(word: &[u8]) -> Opening
@@ -94,11 +95,12 @@ fn lone(word: &[u8]) -> Opening
 pub fn opening(tokens: &[Token]) -> Opening
     ensures { result ≡ opening_at (item_shown tokens.now) }
 {
-    let [Token::Word(first), rest @ ..] = tokens else {
+    let mut input = Input::new(tokens);
+    let Some(first) = input.word() else {
         return Opening::Plain(Plain::Fixed);
     };
-    match rest {
-        [Token::Word(second), ..] => worded(first.as_slice(), second.as_slice()),
-        _ => lone(first.as_slice()),
+    match input.next_word() {
+        Some(second) => worded(first, second),
+        None => lone(first),
     }
 }
