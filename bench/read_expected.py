@@ -83,9 +83,10 @@ def prefixes(text):
 
 
 def many():
-    text = content("function.c")
-    copies = 20000
-    yield f"{len(text) * copies} bytes\n{copies} items read\n{copies} items read again\n"
+    text = content("m.c")
+    copies = 2000
+    items = len(ends(text)) * copies
+    yield f"{len(text) * copies} bytes\n{items} items read\n{items} items read again\n"
 
 
 for lines in (shown(), counted(), prefixes(content("m.c")), many()):
