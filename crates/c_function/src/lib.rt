@@ -8,5 +8,5 @@ mod heads;
 mod listing;
 
 pub use declared::declarations;
-pub use functions::{Body, function};
+pub use functions::function;
 pub use heads::head;
