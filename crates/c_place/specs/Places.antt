@@ -1,5 +1,5 @@
 -- Places of statements, and their tokens one by one. The project's own profile of C (ISO/IEC 9899:2011).
-use Rattle.std.specs.Prelude.{⊤, ℕ, List, [], ◌∷◌, ◌++◌}
+use Rattle.std.specs.Prelude.{List, [], ◌∷◌, ◌++◌}
 use Rattle.c_state.specs.CTokens.{CToken, word, sign}
 use Rattle.c_tree.specs.declared.statement.FieldPlace.{FieldPlace}
 use Rattle.c_tree.specs.declared.statement.ViewNumber.{ViewNumber}

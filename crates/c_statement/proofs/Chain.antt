@@ -1,5 +1,5 @@
 -- Trees one behind another in a list of tokens.
-use Rattle.std.proofs.Common.{◌≡◌, List, [], ◌∷◌, ◌++◌, Bool, true, false, ℕ, Some, refl, sym, ap, ◌∙◌}
+use Rattle.std.proofs.Common.{◌≡◌, List, ◌∷◌, ◌++◌, Bool, true, false, ℕ, Some, refl, sym, ap, ◌∙◌}
 use Rattle.std.specs.Prelude.{None, Option, nat_eq}
 use Rattle.std.proofs.lemmas.Bool.{false≢true}
 use Rattle.std.proofs.lemmas.List.{append_assoc}

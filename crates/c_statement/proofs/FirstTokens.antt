@@ -1,11 +1,11 @@
 -- What the first tokens say of each source in form.
 use Rattle.std.proofs.Common.{◌≡◌, ◌⊎◌, inl, inr, ℕ, List, [], ◌∷◌, ◌++◌, Bool, true, false, Some, refl, sym, ap, subst, ◌∙◌}
-use Rattle.std.specs.Prelude.{codes, ◌&&◌, not, if◌then◌else◌, slice_get, IfOk, Option}
+use Rattle.std.specs.Prelude.{codes, ◌&&◌, not, if◌then◌else◌, IfOk, Option}
 use Rattle.std.proofs.Common.{Result, Ok, Err}
 use Rattle.c_input.specs.Reads.{ReadsEvery}
 use Rattle.std.specs.List.{flat_map}
 use Rattle.std.proofs.lemmas.List.{append_assoc}
-use Rattle.c_state.specs.CTokens.{CToken, Word, word, sign, c_tokens, tokens_from}
+use Rattle.c_state.specs.CTokens.{CToken, Word, sign, c_tokens, tokens_from}
 use Rattle.c_tree.specs.declared.statement.Argument.{Argument}
 use Rattle.c_tree.specs.declared.statement.Argument.TheVariants as argument
 use Rattle.c_tree.specs.declared.statement.BinaryOp.{BinaryOp}
@@ -25,7 +25,7 @@ use Rattle.c_input.specs.Literals.{IsBelow}
 use Rattle.c_statement.specs.declared.source.Source.{Source}
 use Rattle.c_statement.specs.declared.source.Source.TheVariants as source
 use Rattle.c_statement.specs.declared.source_kind.SourceKind.TheVariants as kind
-use Rattle.c_statement.specs.Seen.{is_sign, is_word, sign_at, word_at}
+use Rattle.c_statement.specs.Seen.{is_sign, sign_at, word_at}
 use Rattle.c_statement.specs.Sources.{end, source_kind, source_seen, source_tokens, IsSource, IsSourceOf}
 
 -- what stands behind an operand is no `(` and no `.`

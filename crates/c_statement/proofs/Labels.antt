@@ -1,8 +1,8 @@
 -- Lines one by one: how they begin, and whether the last is a label.
 use Rattle.std.proofs.Common.{◌≡◌, ◌⊎◌, inl, inr, ℕ, List, [], ◌∷◌, ◌++◌, Bool, true, false, Some, None, refl, sym, ap, subst, ◌∙◌}
-use Rattle.std.specs.Prelude.{◌≢◌, codes, slice_get}
+use Rattle.std.specs.Prelude.{◌≢◌, codes}
 use Rattle.std.proofs.lemmas.Bool.{false≢true}
-use Rattle.c_state.specs.CTokens.{CToken, Word, sign, c_tokens, tokens_from}
+use Rattle.c_state.specs.CTokens.{CToken, Word, c_tokens, tokens_from}
 use Rattle.c_tree.specs.declared.item.Line.{Line}
 use Rattle.c_tree.specs.declared.item.Line.TheVariants as line
 use Rattle.c_tree.specs.declared.statement.CStmt.{CStmt}
@@ -11,7 +11,7 @@ use Rattle.c_tree.specs.declared.statement.CTest.TheVariants as test
 use Rattle.c_tree.specs.declared.statement.ViewPlace.TheVariants as place
 use Rattle.c_tree.specs.declared.value.CValue.{CValue}
 use Rattle.c_tree.specs.declared.value.CValue.TheVariants as value
-use Rattle.c_tree.specs.Forms.{IsLine, LabelsStand}
+use Rattle.c_tree.specs.Forms.{LabelsStand}
 use Rattle.c_tree.specs.Items.{line_spelling}
 use Rattle.c_tree.specs.Statements.{statement_spelling}
 use Rattle.c_tree.specs.Values.{literal_spelling}

@@ -1,6 +1,6 @@
 -- Statements that assign: a variable, and what stands behind `x =`.
-use Rattle.std.proofs.Common.{◌≡◌, List, [], ◌∷◌, ◌++◌, Some, None, refl}
-use Rattle.c_state.specs.CTokens.{CToken, sign}
+use Rattle.std.proofs.Common.{◌≡◌, ◌∷◌, ◌++◌, Some, refl}
+use Rattle.c_state.specs.CTokens.{sign}
 use Rattle.c_tree.specs.declared.name.Variable.{Variable}
 use Rattle.c_tree.specs.declared.statement.CStmt.{CStmt}
 use Rattle.c_tree.specs.declared.statement.CStmt.TheVariants as stmt
@@ -15,7 +15,7 @@ use Rattle.c_statement.specs.declared.source.Source.{Source}
 use Rattle.c_statement.specs.declared.source.Source.TheVariants as source
 use Rattle.c_statement.specs.declared.statement_kind.StatementKind.TheVariants as kind
 use Rattle.c_statement.specs.Sources.{put, source_tokens, IsSource}
-use Rattle.c_statement.specs.Statements.{statement_kind, statement_tokens, IsStatementOf}
+use Rattle.c_statement.specs.Statements.{statement_tokens, IsStatementOf}
 
 pub record IsPut (s : CStmt) : Type 0 where
   pub variable : Variable

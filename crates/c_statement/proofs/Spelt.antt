@@ -1,15 +1,13 @@
 -- The tokens of statements are those of their spellings.
-use Rattle.std.proofs.Common.{◌≡◌, List, [], ◌∷◌, ◌++◌, Some, None, Result, Ok, Err, refl, sym, ap, ◌∙◌}
+use Rattle.std.proofs.Common.{◌≡◌, List, ◌++◌, Some, None, Result, Ok, Err, refl, sym, ap, ◌∙◌}
 use Rattle.std.specs.Prelude.{IfOk, Option}
 use Rattle.c_input.specs.Reads.{Finds, ReadsEvery}
 use Rattle.c_tree.specs.Forms.{IsStatement}
 use Rattle.std.proofs.lemmas.List.{append_assoc}
-use Rattle.c_state.specs.CTokens.{CToken, sign, word, c_tokens, tokens_from}
-use Rattle.c_tree.specs.declared.name.Variable.{Variable}
+use Rattle.c_state.specs.CTokens.{CToken, c_tokens, tokens_from}
 use Rattle.c_tree.specs.declared.statement.CStmt.{CStmt}
 use Rattle.c_tree.specs.declared.statement.CStmt.TheVariants as stmt
 use Rattle.c_tree.specs.declared.statement.CTest.TheVariants as test
-use Rattle.c_tree.specs.declared.statement.ViewPlace.{ViewPlace}
 use Rattle.c_tree.specs.Statements.{statement_spelling}
 use Rattle.c_statement.specs.Statements.{statement_tokens}
 

@@ -21,10 +21,9 @@ use Rattle.c_tree.specs.Names.{variable_name}
 use Rattle.c_tree.specs.Statements.{arguments, callee_name}
 use Rattle.c_input.specs.Reads.{ReadsEvery}
 use Rattle.c_statement.specs.declared.statement_kind.StatementKind.TheVariants as kind
-use Rattle.c_statement.specs.Seen.{sign_at}
 use Rattle.c_statement.specs.Sources.{end}
 use Rattle.c_statement.specs.Statements.{statement_kind, statement_seen, statement_tokens, IsStatementOf}
-use Rattle.c_statement.proofs.FirstTokens.{arguments_seen, IsArguments}
+use Rattle.c_statement.proofs.FirstTokens.{arguments_seen}
 
 -- a word that begins no `goto`, no test and no `return`
 record IsPlainWord (w : List ℕ) : Type 0 where

@@ -1,7 +1,6 @@
 -- What a test of one token says.
-use Rattle.std.proofs.Common.{◌≡◌, ℕ, List, Bool, true, false, Some, None, Decides, refl, ap, sym, ◌∙◌}
+use Rattle.std.proofs.Common.{◌≡◌, ℕ, List, Bool, true, false, Some, None, refl, ap, sym}
 use Rattle.std.specs.Prelude.{◌↔◌, Option}
-use Rattle.std.specs.Str.{bytes_eq}
 use Rattle.std.proofs.lemmas.Slice.Eq.{bytes_eq-Decides}
 use Rattle.c_state.specs.CTokens.{CToken, Word, Str, Character, Sign, HeaderName, LineEnd, Other}
 use Rattle.c_statement.specs.Seen.{is_sign, is_word}

@@ -1,8 +1,8 @@
 -- Which token stands at a place. The project's own.
 use Prim.Native.String.{String}
-use Rattle.std.specs.Prelude.{ℕ, List, Bool, true, false, Option, Some, None, slice_get, codes}
+use Rattle.std.specs.Prelude.{ℕ, List, Bool, false, Option, Some, slice_get, codes}
 use Rattle.std.specs.Str.{bytes_eq}
-use Rattle.c_state.specs.CTokens.{CToken, Word, Str, Character, Sign, HeaderName, LineEnd, Other}
+use Rattle.c_state.specs.CTokens.{CToken, Word, Sign}
 
 abbrev pub is_sign : List ℕ → Option CToken → Bool
 is_sign letters (Some (Sign bytes)) = bytes_eq bytes letters

@@ -1,5 +1,5 @@
 -- What stands behind `x =`, and what its first tokens say of it. The project's own profile of C (ISO/IEC 9899:2011).
-use Rattle.std.specs.Prelude.{◌≡◌, ℕ, List, [], ◌∷◌, ◌++◌, Bool, true, false, not, ◌&&◌, if◌then◌else◌, Option, Some, None}
+use Rattle.std.specs.Prelude.{◌≡◌, ℕ, List, [], ◌∷◌, ◌++◌, not, ◌&&◌, if◌then◌else◌, Option, Some, None}
 use Rattle.std.specs.List.{AllByRecursion}
 use Rattle.c_state.specs.CTokens.{CToken, Word, word, sign}
 use Rattle.c_tree.specs.declared.statement.CStmt.{CStmt}

@@ -20,12 +20,7 @@ pub fn element_written(input: &mut Input) -> Option<CStmt>
         return None;
     }
     let written = ended(input)?;
-    Some(CStmt::StoreElement(
-        place.kind,
-        place.view,
-        place.offset,
-        written,
-    ))
+    Some(CStmt::StoreElement(place.kind, place.view, place.offset, written))
 }
 
 /// Reads `((struct cyc_root *)y)->vt = &cyc_t_0_1;`.

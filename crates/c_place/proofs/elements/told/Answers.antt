@@ -1,4 +1,4 @@
-use Rattle.std.proofs.Common.{◌≡◌, Some, List, sym, ap, drop, ◌∙◌}
+use Rattle.std.proofs.Common.{Some, sym, ap, drop, ◌∙◌}
 use Rattle.std.proofs.lemmas.List.{append_assoc}
 use Rattle.c_tree.specs.Values.{type_spelling}
 use Rattle.c_place.proofs.Steps.{left_of, value_of}

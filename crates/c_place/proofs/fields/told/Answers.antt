@@ -1,4 +1,4 @@
-use Rattle.std.proofs.Common.{◌≡◌, Some, sym, ap, drop, ◌∙◌}
+use Rattle.std.proofs.Common.{Some, sym, ap, drop, ◌∙◌}
 use Rattle.c_place.proofs.Steps.{value_of}
 use Rattle.c_place.proofs.fields.told.Goals as goal
 

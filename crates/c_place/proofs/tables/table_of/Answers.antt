@@ -1,4 +1,4 @@
-use Rattle.std.proofs.Common.{◌≡◌, ◌++◌, List, ap, ◌∙◌}
+use Rattle.std.proofs.Common.{◌++◌, List, ap, ◌∙◌}
 use Rattle.c_state.specs.CTokens.{CToken}
 use Rattle.c_place.proofs.Fixed.{table_spelled}
 use Rattle.c_place.proofs.tables.table_of.Goals as goal

@@ -1,4 +1,4 @@
-use Rattle.std.proofs.Common.{◌≡◌, Some, sym, ap, drop, ◌∙◌}
+use Rattle.std.proofs.Common.{sym, ap, drop, ◌∙◌}
 use Rattle.c_place.proofs.tables.told_method.Goals as goal
 
 pub returns-in_err-object-clause-every : goal.returns-in_err-object-clause-every

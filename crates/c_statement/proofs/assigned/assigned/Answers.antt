@@ -1,32 +1,14 @@
-use Rattle.std.proofs.Common.{◌≡◌, ◌++◌, ◌∷◌, [], List, Some, None, sym, ap, drop, ◌∙◌}
-use Rattle.c_state.specs.CTokens.{CToken, Word, word, sign}
-use Rattle.c_place.proofs.Steps.{left_of, value_of}
-use Rattle.c_statement.proofs.Chain.{end_apart, field_known, front_of, joined, missing, variable_apart}
+use Rattle.std.proofs.Common.{◌≡◌, ◌++◌, ◌∷◌, List, Some, sym, ap, drop, ◌∙◌}
+use Rattle.c_state.specs.CTokens.{CToken, sign}
+use Rattle.c_place.proofs.Steps.{value_of}
+use Rattle.c_statement.proofs.Chain.{missing}
 use Rattle.c_tree.specs.declared.statement.CStmt.{CStmt}
-use Rattle.c_tree.specs.declared.statement.CStmt.TheVariants as stmt
-use Rattle.c_statement.specs.declared.statement_kind.StatementKind.TheVariants as kinds
-use Rattle.c_statement.specs.Statements.{statement_tokens, IsStatementOf}
-use Rattle.c_statement.proofs.Chain.{kind_apart}
-use Rattle.std.proofs.Common.{refl}
+use Rattle.c_statement.specs.Statements.{statement_tokens}
 use Rattle.std.proofs.Common.{subst}
-use Rattle.std.proofs.lemmas.Bool.{false≢true}
-use Rattle.c_tree.specs.declared.statement.CTest.TheVariants as test
-use Rattle.c_tree.specs.declared.statement.ViewPlace.{ViewPlace}
-use Rattle.c_tree.specs.declared.statement.ViewPlace.TheVariants as place
 use Rattle.c_tree.specs.Forms.{IsStatement}
-use Rattle.c_tree.specs.Names.{name_token}
-use Rattle.c_tree.specs.Statements.{op_spelling, table_of, view}
-use Rattle.c_tree.specs.Values.{value_spelling}
-use Rattle.c_input.specs.Reads.{Finds, ReadsEvery}
-use Rattle.c_place.specs.declared.elements.ElementPlace.{ElementPlace}
-use Rattle.c_place.specs.Places.{element_spelling}
-use Rattle.c_statement.specs.declared.store.Store.{Store}
-use Rattle.c_statement.specs.declared.store.Store.TheVariants as store
-use Rattle.c_statement.specs.Sources.{end, ended_tokens, put}
-use Rattle.c_statement.specs.Stores.{kept, store_tokens, IsStore}
-use Rattle.c_statement.specs.Statements.{comparison_tokens, target_tokens, test_tokens}
-use Rattle.c_statement.proofs.Behind.{close_behind, comparison_form, comparison_known, goto_apart, op_no_bracket, returns_apart, test_apart}
-use Rattle.c_statement.proofs.Putting.{kept_form, kept_tokens, parts_of, put_form, put_tokens}
+use Rattle.c_input.specs.Reads.{Finds}
+use Rattle.c_statement.specs.Sources.{put}
+use Rattle.c_statement.proofs.Putting.{parts_of, put_form, put_tokens}
 use Rattle.std.specs.Prelude.{Option}
 use Rattle.c_tree.specs.Names.{variable_token}
 use Rattle.c_statement.specs.declared.source.Source.{Source}
@@ -55,7 +37,7 @@ returns-in-None-clause-every c = λ s rest form e.
     absurd (missing (sym c.in-None.is ∙ found))
 
 pub returns-in-Some-2-clause-some : goal.returns-in-Some-2-clause-some
-returns-in-Some-2-clause-some c = 
+returns-in-Some-2-clause-some c =
     let x = c.in-Some.x in
     let found = c.in-Some-2.found in
     let new = c.source.new.input in

@@ -1,7 +1,6 @@
-use Rattle.std.proofs.Common.{◌≡◌, ◌++◌, ◌∷◌, [], List, Some, None, sym, ap, drop, ◌∙◌}
-use Rattle.c_state.specs.CTokens.{CToken, Word, word, sign}
-use Rattle.c_place.proofs.Steps.{left_of, value_of}
-use Rattle.c_statement.proofs.Chain.{end_apart, field_known, front_of, joined, missing, variable_apart}
+use Rattle.std.proofs.Common.{◌≡◌, ◌++◌, List, Some, None, sym, ap, drop, ◌∙◌}
+use Rattle.c_state.specs.CTokens.{CToken}
+use Rattle.c_statement.proofs.Chain.{missing}
 use Rattle.c_tree.specs.declared.statement.CStmt.{CStmt}
 use Rattle.c_tree.specs.declared.statement.CStmt.TheVariants as stmt
 use Rattle.c_statement.specs.declared.statement_kind.StatementKind.TheVariants as kinds

@@ -1,4 +1,4 @@
-use Rattle.std.proofs.Common.{◌≡◌, ◌∷◌, ◌++◌, [], List, Some, sym, ap, subst, ◌∙◌}
+use Rattle.std.proofs.Common.{◌≡◌, ◌++◌, List, Some, sym, ap, subst, ◌∙◌}
 use Rattle.std.specs.List.{flat_map}
 use Rattle.std.proofs.lemmas.Bool.{false≢true}
 use Rattle.c_tree.specs.declared.item.Line.{Line}
@@ -21,12 +21,13 @@ loop-alloc-smaller c =
 
 pub loop-alloc-preserved : goal.loop-alloc-preserved
 loop-alloc-preserved c =
-    let P : List Line → Type 0 = λ z. IsRead IsLine line_spelling IsClosed c.args.input.now z c.line.new.input in
-    (subst P (sym c.in_ok-push.ensures.items)
-    (read_step IsLine line_spelling IsClosed c.args.input.now c.loop-alloc.all.items c.loop-alloc.input c.in_ok-next.field-0 c.in-Some.next c.line.new.input c.loop-alloc.invariant.0
-    (λ h. false≢true (sym c.loop-alloc-test.true ∙ c.sees.ensures.1 h)) c.in-Some.is c.in_ok-next.ensures.some
-    (item_every IsLine line_spelling IsClosed c.loop-alloc.input c.in_ok-next.field-0 c.in_ok-next.ensures.every)),
-    c.is_label-labelled.ensures ∙ (sym (ends_pushed c.loop-alloc.all.items c.in-Some.next) ∙ ap ends_in_label (sym c.in_ok-push.ensures.items)))
+    let P : List Line → Type 0 = λ z. IsRead IsLine line_spelling IsClosed c.args.input.now z c.line.new.input in (
+      subst P (sym c.in_ok-push.ensures.items)
+          (read_step IsLine line_spelling IsClosed c.args.input.now c.loop-alloc.all.items c.loop-alloc.input c.in_ok-next.field-0 c.in-Some.next c.line.new.input c.loop-alloc.invariant.0
+          (λ h. false≢true (sym c.loop-alloc-test.true ∙ c.sees.ensures.1 h)) c.in-Some.is c.in_ok-next.ensures.some
+          (item_every IsLine line_spelling IsClosed c.loop-alloc.input c.in_ok-next.field-0 c.in_ok-next.ensures.every)),
+      c.is_label-labelled.ensures ∙ (sym (ends_pushed c.loop-alloc.all.items c.in-Some.next) ∙ ap ends_in_label (sym c.in_ok-push.ensures.items)),
+    )
 
 pub returns-then-labelled-clause-every : goal.returns-then-labelled-clause-every
 returns-then-labelled-clause-every c = λ all rest form end e.

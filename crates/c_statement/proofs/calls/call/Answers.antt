@@ -1,13 +1,10 @@
-use Rattle.std.proofs.Common.{◌≡◌, ◌++◌, ◌∷◌, [], List, Some, None, sym, ap, drop, ◌∙◌}
-use Rattle.c_state.specs.CTokens.{CToken, Word, word, sign}
-use Rattle.c_place.proofs.Steps.{left_of, value_of}
-use Rattle.c_statement.proofs.Chain.{end_apart, field_known, front_of, joined, missing, variable_apart}
+use Rattle.std.proofs.Common.{sym, ap, drop, ◌∙◌}
+use Rattle.c_statement.proofs.Chain.{front_of, missing}
 use Rattle.std.specs.List.{AllByRecursion}
 use Rattle.c_tree.specs.Forms.{IsArgument}
 use Rattle.c_tree.specs.Statements.{arguments, callee_name}
-use Rattle.c_place.specs.Places.{method_spelling}
 use Rattle.c_statement.proofs.Chain.{left_found}
-use Rattle.c_statement.specs.Sources.{end, call_tokens, method_call_tokens, IsCall, IsMethodCall}
+use Rattle.c_statement.specs.Sources.{end}
 use Rattle.c_statement.proofs.calls.call.Goals as goal
 
 pub returns-in_default-2-clause-every : goal.returns-in_default-2-clause-every

@@ -1,32 +1,16 @@
-use Rattle.std.proofs.Common.{◌≡◌, ◌++◌, ◌∷◌, [], List, Some, None, sym, ap, drop, ◌∙◌}
-use Rattle.c_state.specs.CTokens.{CToken, Word, word, sign}
+use Rattle.std.proofs.Common.{◌≡◌, ◌++◌, ◌∷◌, List, Some, None, sym, ap, drop, ◌∙◌}
+use Rattle.c_state.specs.CTokens.{CToken, word, sign}
 use Rattle.c_place.proofs.Steps.{left_of, value_of}
-use Rattle.c_statement.proofs.Chain.{end_apart, field_known, front_of, joined, missing, variable_apart}
+use Rattle.c_statement.proofs.Chain.{front_of, joined, missing}
 use Rattle.c_tree.specs.declared.statement.CStmt.{CStmt}
 use Rattle.c_tree.specs.declared.statement.CStmt.TheVariants as stmt
 use Rattle.c_statement.specs.declared.statement_kind.StatementKind.TheVariants as kinds
 use Rattle.c_statement.specs.Statements.{statement_tokens, IsStatementOf}
 use Rattle.c_statement.proofs.Chain.{kind_apart}
 use Rattle.std.proofs.Common.{refl}
-use Rattle.std.proofs.Common.{subst}
-use Rattle.std.proofs.lemmas.Bool.{false≢true}
 use Rattle.c_tree.specs.declared.statement.CTest.TheVariants as test
-use Rattle.c_tree.specs.declared.statement.ViewPlace.{ViewPlace}
-use Rattle.c_tree.specs.declared.statement.ViewPlace.TheVariants as place
-use Rattle.c_tree.specs.Forms.{IsStatement}
-use Rattle.c_tree.specs.Names.{name_token}
-use Rattle.c_tree.specs.Statements.{op_spelling, table_of, view}
-use Rattle.c_tree.specs.Values.{value_spelling}
-use Rattle.c_input.specs.Reads.{Finds, ReadsEvery}
-use Rattle.c_place.specs.declared.elements.ElementPlace.{ElementPlace}
-use Rattle.c_place.specs.Places.{element_spelling}
-use Rattle.c_statement.specs.declared.store.Store.{Store}
-use Rattle.c_statement.specs.declared.store.Store.TheVariants as store
-use Rattle.c_statement.specs.Sources.{end, ended_tokens, put}
-use Rattle.c_statement.specs.Stores.{kept, store_tokens, IsStore}
-use Rattle.c_statement.specs.Statements.{comparison_tokens, target_tokens, test_tokens}
-use Rattle.c_statement.proofs.Behind.{close_behind, comparison_form, comparison_known, goto_apart, op_no_bracket, returns_apart, test_apart}
-use Rattle.c_statement.proofs.Putting.{kept_form, kept_tokens, parts_of, put_form, put_tokens}
+use Rattle.c_statement.specs.Statements.{comparison_tokens, target_tokens}
+use Rattle.c_statement.proofs.Behind.{comparison_form, comparison_known, goto_apart, test_apart}
 use Rattle.c_statement.proofs.jumps.jump.Goals as goal
 
 pub returns-in_err-label-2-clause-every : goal.returns-in_err-label-2-clause-every
@@ -130,7 +114,7 @@ returns-clause-every c = λ s rest form e. go s rest form e
     go s rest form e = absurd (kind_apart form.1 refl)
 
 pub returns-clause-some : goal.returns-clause-some
-returns-clause-some c = 
+returns-clause-some c =
     let e1 = joined (comparison_tokens c.in_ok-test.test) (target_tokens c.in_ok-label-3.label) c.target-2.new.input c.in_ok-test.ensures.some.1 c.in_ok-label-3.ensures.some.1 in
     let e2 = c.if-not-fixed.ensures ∙ ap (λ t. word "if" ∷ sign "(" ∷ t) (sym c.if-fixed.ensures.0 ∙ e1) in
     let e3 = ap (λ (t : List CToken). (t ++ target_tokens c.in_ok-label-3.label) ++ c.target-2.new.input) (sym (comparison_known c.in_ok-test.test c.in_ok-test.ensures.some.0)) in

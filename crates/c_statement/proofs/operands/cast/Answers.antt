@@ -1,15 +1,14 @@
-use Rattle.std.proofs.Common.{◌≡◌, ◌++◌, ◌∷◌, [], List, Some, None, sym, ap, drop, ◌∙◌}
-use Rattle.c_state.specs.CTokens.{CToken, Word, word, sign}
+use Rattle.std.proofs.Common.{◌≡◌, ◌++◌, ◌∷◌, List, Some, sym, ap, drop, ◌∙◌}
+use Rattle.c_state.specs.CTokens.{CToken, sign}
 use Rattle.c_place.proofs.Steps.{left_of, value_of}
-use Rattle.c_statement.proofs.Chain.{end_apart, field_known, front_of, joined, missing, variable_apart}
+use Rattle.c_statement.proofs.Chain.{front_of, joined, missing}
 use Rattle.c_statement.specs.declared.source.Source.{Source}
 use Rattle.c_statement.specs.declared.source.Source.TheVariants as source
 use Rattle.c_statement.specs.declared.source_kind.SourceKind.TheVariants as kinds
-use Rattle.c_statement.specs.Sources.{end, source_tokens, IsSource, IsSourceOf}
-use Rattle.c_tree.specs.Statements.{op_spelling}
-use Rattle.c_tree.specs.Values.{type_spelling, value_spelling}
+use Rattle.c_statement.specs.Sources.{source_tokens, IsSource, IsSourceOf}
+use Rattle.c_tree.specs.Values.{type_spelling}
 use Rattle.c_statement.specs.Sources.{cast_of, ended_tokens}
-use Rattle.c_statement.proofs.Behind.{cast_found, cast_known, cast_value, end_behind, op_apart, op_no_bracket}
+use Rattle.c_statement.proofs.Behind.{cast_found, cast_known, cast_value}
 use Rattle.std.proofs.Common.{subst}
 use Rattle.std.specs.Prelude.{Option}
 use Rattle.c_input.specs.Reads.{Finds}
@@ -62,7 +61,7 @@ returns-clause-every c = λ s rest form e. go s rest form e
     go s rest form e = absurd (cc (form.1))
 
 pub returns-clause-some : goal.returns-clause-some
-returns-clause-some c = 
+returns-clause-some c =
     let e2 = c.if-not-fixed-2.ensures ∙ ap (λ t. sign ")" ∷ t) c.in_ok-found.ensures.some.1 in
     let e1 = c.if-not-fixed.ensures ∙ ap (λ t. sign "(" ∷ t) (joined (type_spelling c.in_ok-to.to) (sign ")" ∷ ended_tokens c.in_ok-found.found) c.ended.new.input c.in_ok-to.ensures.some.1 e2) in
     subst (λ (t : Option Source). Finds IsSource source_tokens c.args.input.now t c.ended.new.input) (sym c.as_type.ensures) (cast_found c.in_ok-to.to c.in_ok-found.found c.args.input.now c.ended.new.input c.in_ok-found.ensures.some.0 e1)

@@ -1,15 +1,8 @@
-use Rattle.std.proofs.Common.{◌≡◌, ◌++◌, ◌∷◌, [], List, Some, None, sym, ap, drop, ◌∙◌}
-use Rattle.c_state.specs.CTokens.{CToken, Word, word, sign}
-use Rattle.c_place.proofs.Steps.{left_of, value_of}
-use Rattle.c_statement.proofs.Chain.{end_apart, field_known, front_of, joined, missing, variable_apart}
-use Rattle.c_statement.specs.declared.source.Source.{Source}
-use Rattle.c_statement.specs.declared.source.Source.TheVariants as source
-use Rattle.c_statement.specs.declared.source_kind.SourceKind.TheVariants as kinds
-use Rattle.c_statement.specs.Sources.{end, source_tokens, IsSource, IsSourceOf}
-use Rattle.c_tree.specs.Statements.{op_spelling}
-use Rattle.c_tree.specs.Values.{type_spelling, value_spelling}
-use Rattle.c_statement.specs.Sources.{cast_of, ended_tokens}
-use Rattle.c_statement.proofs.Behind.{cast_found, cast_known, cast_value, end_behind, op_apart, op_no_bracket}
+use Rattle.c_place.proofs.Steps.{left_of}
+use Rattle.c_statement.proofs.Chain.{front_of, joined, missing}
+use Rattle.c_statement.specs.Sources.{end}
+use Rattle.c_tree.specs.Values.{value_spelling}
+use Rattle.c_statement.proofs.Behind.{end_behind}
 use Rattle.c_statement.proofs.operands.ended.Goals as goal
 
 pub returns-in_err-found-clause-every : goal.returns-in_err-found-clause-every

@@ -1,15 +1,15 @@
-use Rattle.std.proofs.Common.{◌≡◌, ◌++◌, ◌∷◌, [], List, Some, None, sym, ap, drop, ◌∙◌}
-use Rattle.c_state.specs.CTokens.{CToken, Word, word, sign}
+use Rattle.std.proofs.Common.{◌≡◌, ◌++◌, ◌∷◌, List, Some, sym, ap, drop, ◌∙◌}
+use Rattle.c_state.specs.CTokens.{CToken}
 use Rattle.c_place.proofs.Steps.{left_of, value_of}
-use Rattle.c_statement.proofs.Chain.{end_apart, field_known, front_of, joined, missing, variable_apart}
+use Rattle.c_statement.proofs.Chain.{front_of, joined, missing}
 use Rattle.c_statement.specs.declared.source.Source.{Source}
 use Rattle.c_statement.specs.declared.source.Source.TheVariants as source
 use Rattle.c_statement.specs.declared.source_kind.SourceKind.TheVariants as kinds
-use Rattle.c_statement.specs.Sources.{end, source_tokens, IsSource, IsSourceOf}
+use Rattle.c_statement.specs.Sources.{end, source_tokens, IsSourceOf}
 use Rattle.c_tree.specs.Statements.{op_spelling}
-use Rattle.c_tree.specs.Values.{type_spelling, value_spelling}
-use Rattle.c_statement.specs.Sources.{cast_of, ended_tokens}
-use Rattle.c_statement.proofs.Behind.{cast_found, cast_known, cast_value, end_behind, op_apart, op_no_bracket}
+use Rattle.c_tree.specs.Values.{value_spelling}
+use Rattle.c_statement.specs.Sources.{ended_tokens}
+use Rattle.c_statement.proofs.Behind.{end_behind, op_apart, op_no_bracket}
 use Rattle.c_statement.proofs.operands.operands.Goals as goal
 
 pub returns-in_err-first-clause-every : goal.returns-in_err-first-clause-every
@@ -100,7 +100,8 @@ returns-clause-every c = λ s rest form e. go s rest form e
     go s rest form e = absurd (cc (form.1))
 
 pub returns-clause-some : goal.returns-clause-some
-returns-clause-some c = 
-    ((c.in_ok-first.ensures.some.0, c.in_ok-second.ensures.some.0),
-    joined (value_spelling c.in_ok-first.first) (op_spelling c.in_ok-between.between ∷ ended_tokens c.in_ok-second.second) c.ended.new.input c.in_ok-first.ensures.some.1
-    (sym c.if-fixed.ensures.0 ∙ (c.in_ok-between.ensures.some.1 ∙ ap (λ t. op_spelling c.in_ok-between.between ∷ t) c.in_ok-second.ensures.some.1)))
+returns-clause-some c = (
+  (c.in_ok-first.ensures.some.0, c.in_ok-second.ensures.some.0),
+  joined (value_spelling c.in_ok-first.first) (op_spelling c.in_ok-between.between ∷ ended_tokens c.in_ok-second.second) c.ended.new.input c.in_ok-first.ensures.some.1
+      (sym c.if-fixed.ensures.0 ∙ (c.in_ok-between.ensures.some.1 ∙ ap (λ t. op_spelling c.in_ok-between.between ∷ t) c.in_ok-second.ensures.some.1)),
+)

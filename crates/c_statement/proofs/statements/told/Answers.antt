@@ -1,13 +1,4 @@
-use Rattle.std.proofs.Common.{◌≡◌, ◌++◌, ◌∷◌, [], List, Some, None, sym, ap, drop, ◌∙◌}
-use Rattle.c_state.specs.CTokens.{CToken, Word, word, sign}
-use Rattle.c_place.proofs.Steps.{left_of, value_of}
-use Rattle.c_statement.proofs.Chain.{end_apart, field_known, front_of, joined, missing, variable_apart}
-use Rattle.c_tree.specs.declared.statement.CStmt.{CStmt}
-use Rattle.c_tree.specs.declared.statement.CStmt.TheVariants as stmt
 use Rattle.c_statement.specs.declared.statement_kind.StatementKind.TheVariants as kinds
-use Rattle.c_statement.specs.Statements.{statement_tokens, IsStatementOf}
-use Rattle.c_statement.proofs.Chain.{kind_apart}
-use Rattle.std.proofs.Common.{refl}
 use Rattle.c_statement.proofs.Starts.{every_ok, told_kind}
 use Rattle.c_statement.proofs.statements.told.Goals as goal
 

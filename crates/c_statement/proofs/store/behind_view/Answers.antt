@@ -1,14 +1,9 @@
-use Rattle.std.proofs.Common.{◌≡◌, ◌++◌, ◌∷◌, [], List, Some, None, sym, ap, drop, ◌∙◌}
-use Rattle.c_state.specs.CTokens.{CToken, Word, word, sign}
-use Rattle.c_place.proofs.Steps.{left_of, value_of}
-use Rattle.c_statement.proofs.Chain.{end_apart, field_known, front_of, joined, missing, variable_apart}
-use Rattle.std.proofs.lemmas.Bool.{false≢true}
-use Rattle.c_tree.specs.Statements.{buffer_of, extent_name, view}
+use Rattle.std.proofs.Common.{◌≡◌, ◌++◌, List, Some, sym, ap, drop, ◌∙◌}
+use Rattle.c_state.specs.CTokens.{CToken}
 use Rattle.c_statement.specs.declared.store.Store.{Store}
 use Rattle.c_statement.specs.declared.store.Store.TheVariants as store
-use Rattle.c_statement.specs.Sources.{end, ended_tokens}
-use Rattle.c_statement.specs.Stores.{buffered_tokens, store_tokens, IsBuffered, IsShifted, IsStore}
-use Rattle.c_statement.proofs.Chain.{extent_apart, memory_apart, no_view, plus_apart}
+use Rattle.c_statement.specs.Stores.{store_tokens, IsStore}
+use Rattle.c_statement.proofs.Chain.{extent_apart, memory_apart}
 use Rattle.c_statement.proofs.store.behind_view.Goals as goal
 
 pub returns-then-fixed-clause-every : goal.returns-then-fixed-clause-every

@@ -1,14 +1,12 @@
-use Rattle.std.proofs.Common.{◌≡◌, ◌++◌, ◌∷◌, [], List, Some, None, sym, ap, drop, ◌∙◌}
-use Rattle.c_state.specs.CTokens.{CToken, Word, word, sign}
-use Rattle.c_place.proofs.Steps.{left_of, value_of}
-use Rattle.c_statement.proofs.Chain.{end_apart, field_known, front_of, joined, missing, variable_apart}
-use Rattle.std.proofs.lemmas.Bool.{false≢true}
-use Rattle.c_tree.specs.Statements.{buffer_of, extent_name, view}
+use Rattle.std.proofs.Common.{◌≡◌, ◌++◌, List, Some, ap}
+use Rattle.c_state.specs.CTokens.{CToken}
+use Rattle.c_place.proofs.Steps.{value_of}
+use Rattle.c_statement.proofs.Chain.{front_of, missing}
+use Rattle.c_tree.specs.Statements.{view}
 use Rattle.c_statement.specs.declared.store.Store.{Store}
 use Rattle.c_statement.specs.declared.store.Store.TheVariants as store
-use Rattle.c_statement.specs.Sources.{end, ended_tokens}
-use Rattle.c_statement.specs.Stores.{buffered_tokens, store_tokens, IsBuffered, IsShifted, IsStore}
-use Rattle.c_statement.proofs.Chain.{extent_apart, memory_apart, no_view, plus_apart}
+use Rattle.c_statement.specs.Stores.{buffered_tokens, IsBuffered}
+use Rattle.c_statement.proofs.Chain.{no_view}
 use Rattle.c_statement.proofs.store.buffered.Goals as goal
 
 pub returns-in_err-object-clause-every : goal.returns-in_err-object-clause-every

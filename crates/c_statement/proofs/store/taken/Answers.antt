@@ -1,14 +1,7 @@
-use Rattle.std.proofs.Common.{◌≡◌, ◌++◌, ◌∷◌, [], List, Some, None, sym, ap, drop, ◌∙◌}
-use Rattle.c_state.specs.CTokens.{CToken, Word, word, sign}
-use Rattle.c_place.proofs.Steps.{left_of, value_of}
-use Rattle.c_statement.proofs.Chain.{end_apart, field_known, front_of, joined, missing, variable_apart}
-use Rattle.std.proofs.lemmas.Bool.{false≢true}
-use Rattle.c_tree.specs.Statements.{buffer_of, extent_name, view}
-use Rattle.c_statement.specs.declared.store.Store.{Store}
-use Rattle.c_statement.specs.declared.store.Store.TheVariants as store
-use Rattle.c_statement.specs.Sources.{end, ended_tokens}
-use Rattle.c_statement.specs.Stores.{buffered_tokens, store_tokens, IsBuffered, IsShifted, IsStore}
-use Rattle.c_statement.proofs.Chain.{extent_apart, memory_apart, no_view, plus_apart}
+use Rattle.std.proofs.Common.{sym, ap, drop, ◌∙◌}
+use Rattle.c_place.proofs.Steps.{left_of}
+use Rattle.c_statement.proofs.Chain.{front_of}
+use Rattle.c_tree.specs.Statements.{buffer_of}
 use Rattle.c_statement.proofs.store.taken.Goals as goal
 
 pub returns-else-fixed-clause-every : goal.returns-else-fixed-clause-every

@@ -1,11 +1,10 @@
-use Rattle.std.proofs.Common.{◌≡◌, ◌++◌, ◌∷◌, [], List, Some, None, sym, ap, drop, ◌∙◌}
-use Rattle.c_state.specs.CTokens.{CToken, Word, word, sign}
-use Rattle.c_place.proofs.Steps.{left_of, value_of}
-use Rattle.c_statement.proofs.Chain.{end_apart, field_known, front_of, joined, missing, variable_apart}
+use Rattle.std.proofs.Common.{◌≡◌, ◌++◌, List, sym, ap, drop, ◌∙◌}
+use Rattle.c_state.specs.CTokens.{CToken}
+use Rattle.c_statement.proofs.Chain.{missing}
 use Rattle.c_statement.specs.declared.source.Source.{Source}
 use Rattle.c_statement.specs.declared.source.Source.TheVariants as source
 use Rattle.c_statement.specs.declared.source_kind.SourceKind.TheVariants as kinds
-use Rattle.c_statement.specs.Sources.{end, source_tokens, IsSource, IsSourceOf}
+use Rattle.c_statement.specs.Sources.{source_tokens, IsSourceOf}
 use Rattle.c_statement.proofs.tests.heap_type.Goals as goal
 
 pub returns-in_err-object-clause-every : goal.returns-in_err-object-clause-every
