@@ -7,9 +7,9 @@ ghost use Rattle.c_statement.specs.Statements.{statement_tokens, IsStatementOf};
 ghost use Rattle.c_statement.specs.declared.statement_kind.StatementKind.TheVariants as kinds;
 
 use crate::calls::{call, method_call};
+use crate::object_tests::{passed, same};
 use crate::source::Source;
 use crate::sources::source;
-use crate::tests::{passed, same};
 use c_input::{Input, Piece};
 use c_tree::{CStmt, Variable};
 use cy_base::OutOfMemory;

@@ -49,7 +49,8 @@ fn is_label(line: &Line) -> bool
     matches!(line, Line::Label(_))
 }
 
-/// Reads the lines of a function, up to `}`; a label that no statement follows is none of its.
+/// Reads the lines of a function, up to `}`. It has none where the last is a label: a statement stands behind each (ISO/IEC
+/// 9899:2011 6.8.1).
 pub fn lines(alloc: Global, input: &mut Input) -> Result<Option<Items<Line>>, OutOfMemory>
     ensures some { IfOk result (λ found. Finds AreLines (flat_map line_spelling) input.old found input.new) }
     ensures every { IfOk result (λ found. (all : List LineTree) (rest : List CToken) → AreLines all → IsClosed rest → input.old ≡ flat_map line_spelling all ++ rest → found ≡ Some all) }

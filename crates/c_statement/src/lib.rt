@@ -6,6 +6,7 @@ mod body;
 mod buffers;
 mod calls;
 mod jumps;
+mod object_tests;
 mod operands;
 mod places;
 mod seen;
@@ -15,7 +16,6 @@ mod sources;
 mod statement_kind;
 mod statements;
 mod store;
-mod tests;
 mod written;
 
 pub use body::{line, lines};

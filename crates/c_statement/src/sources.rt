@@ -6,11 +6,11 @@ ghost use Rattle.c_statement.specs.declared.source_kind.SourceKind.TheVariants a
 
 use crate::buffers::{buffer, format};
 use crate::calls::{call, method_call};
+use crate::object_tests::{heap_type, native};
 use crate::operands::{cast, inverted, operands};
 use crate::places::{element_read, place};
 use crate::source::Source;
 use crate::source_kind::{SourceKind, source_kind};
-use crate::tests::{heap_type, native};
 use c_input::Input;
 use cy_base::OutOfMemory;
 use std::alloc::Global;

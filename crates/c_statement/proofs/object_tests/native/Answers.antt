@@ -7,7 +7,7 @@ use Rattle.c_statement.specs.declared.source.Source.TheVariants as source
 use Rattle.c_statement.specs.declared.source_kind.SourceKind.TheVariants as kinds
 use Rattle.c_statement.specs.Sources.{source_tokens, IsSourceOf}
 use Rattle.std.proofs.lemmas.Bool.{false≢true}
-use Rattle.c_statement.proofs.tests.native.Goals as goal
+use Rattle.c_statement.proofs.object_tests.native.Goals as goal
 
 pub returns-in_err-object-clause-every : goal.returns-in_err-object-clause-every
 returns-in_err-object-clause-every c = λ s rest form e. absurd (go s rest form e)
