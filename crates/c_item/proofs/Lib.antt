@@ -1,4 +1,5 @@
 mod Openings
+mod Opens
 mod Passing
 mod Results
 mod Typing

@@ -1,6 +1,6 @@
 -- The items that are no functions: their kinds, forms and tokens without the `static` that may stand before them. The
 -- project's own.
-use Rattle.std.specs.Prelude.{◌≡◌, ⊤, List, [], Bool, false}
+use Rattle.std.specs.Prelude.{◌≡◌, ⊤, List, [], ◌∷◌, Bool, false, Option, Some, None}
 use Rattle.c_state.specs.CTokens.{CToken}
 use Rattle.c_tree.specs.declared.item.CItem.{CItem}
 use Rattle.c_tree.specs.declared.item.CItem.TheVariants as item
@@ -91,3 +91,15 @@ IsDeclared flag t = IsOfKind (opening_of t) flag t
 
 abbrev pub declared_tokens : CItem → List CToken
 declared_tokens t = kind_tokens (opening_of t) t
+
+-- items that are no functions
+abbrev pub IsUnbodied : CItem → Type 0
+IsUnbodied item.FormatTest = ⊥
+IsUnbodied (item.Function f) = ⊥
+IsUnbodied _ = ⊤
+
+-- the last token
+abbrev pub last_of : List CToken → Option CToken
+last_of [] = None
+last_of (last ∷ []) = Some last
+last_of (first ∷ next ∷ more) = last_of (next ∷ more)

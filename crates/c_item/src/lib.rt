@@ -3,6 +3,7 @@
 
 mod declared;
 mod fixed;
+mod item;
 mod kinds;
 mod opening;
 mod typed;
