@@ -19,7 +19,7 @@ use Rattle.c_tree.specs.Items.{base_spelling, fields_spelling, item_spelling, me
 use Rattle.c_table.specs.Parts.{base_tokens, end_tokens, method_tokens, pair_tokens, property_end, property_tokens, setter_tokens}
 use Rattle.c_table.specs.Tables.{item_tokens, methods_end, properties_end}
 
-same_flat_map : {A : Type 0} (f g : A → List CToken) (xs : List A) → ((x : A) → f x ≡ g x) → flat_map f xs ≡ flat_map g xs
+pub same_flat_map : {A : Type 0} (f g : A → List CToken) (xs : List A) → ((x : A) → f x ≡ g x) → flat_map f xs ≡ flat_map g xs
 same_flat_map f g [] h = refl
 same_flat_map f g (x ∷ xs) h = ap (λ (t : List CToken). t ++ flat_map f xs) (h x) ∙ ap (λ (t : List CToken). g x ++ t) (same_flat_map f g xs h)
 
