@@ -3,6 +3,7 @@ use Rattle.std.proofs.Common.{◌≡◌, ℕ, suc, ◌-◌, ◌≤◌, List, [],
 use Rattle.c_state.specs.CTokens.{CToken}
 use Rattle.c_cut.specs.declared.token.Token.{Token}
 use Rattle.c_cut.specs.Shown.{item_shown, token_shown}
+use Rattle.c_table.proofs.Steps.{assoc}
 use Rattle.c_item.specs.Kinds.{last_of}
 
 pub last_shown : (ts : List Token) (x : Token) → 1 ≤ length ts → x ≡ get_or ts (length ts - 1) x → last_of (item_shown ts) ≡ Some (token_shown x)
@@ -21,3 +22,13 @@ last_append (x ∷ z ∷ more) y ys = last_append (z ∷ more) y ys
 pub append_nil : (xs : List CToken) → xs ++ [] ≡ xs
 append_nil [] = refl
 append_nil (x ∷ xs) = ap (λ (t : List CToken). x ∷ t) (append_nil xs)
+
+-- the list ends in this token
+abbrev pub EndsIn : CToken → List CToken → Type 0
+EndsIn y xs = (front : List CToken) × (xs ≡ front ++ y ∷ [])
+
+pub ends_behind : (y : CToken) (zs xs : List CToken) → EndsIn y xs → EndsIn y (zs ++ xs)
+ends_behind y zs xs h = (zs ++ h.0, ap (λ (t : List CToken). zs ++ t) h.1 ∙ sym (assoc zs h.0 (y ∷ [])))
+
+pub last_ends : (y : CToken) (xs : List CToken) → EndsIn y xs → last_of xs ≡ Some y
+last_ends y xs h = ap last_of h.1 ∙ last_append h.0 y []

@@ -1,3 +1,5 @@
+mod Bodies
+mod Ends
 mod Lasts
 mod Openings
 mod Opens

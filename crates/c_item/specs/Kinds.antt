@@ -4,6 +4,7 @@ use Rattle.std.specs.Prelude.{◌≡◌, ⊤, List, [], ◌∷◌, Bool, false, 
 use Rattle.c_state.specs.CTokens.{CToken}
 use Rattle.c_tree.specs.declared.item.CItem.{CItem}
 use Rattle.c_tree.specs.declared.item.CItem.TheVariants as item
+use Rattle.c_tree.specs.Forms.{IsFunction}
 use Rattle.c_slots.specs.declared.structs.TableStruct.{TableStruct}
 use Rattle.c_slots.specs.Slots.{table_struct_tokens, IsTableStruct}
 use Rattle.c_slots.specs.Tables.{method_table_tokens, IsMethodTable}
@@ -103,3 +104,9 @@ abbrev pub last_of : List CToken → Option CToken
 last_of [] = None
 last_of (last ∷ []) = Some last
 last_of (first ∷ next ∷ more) = last_of (next ∷ more)
+
+-- functions
+abbrev pub IsBodied : CItem → Type 0
+IsBodied item.FormatTest = ⊤
+IsBodied (item.Function f) = IsFunction f
+IsBodied _ = ⊥
