@@ -9,8 +9,6 @@
 mod again;
 mod copies;
 
-ghost use Rattle.std.specs.Prelude.{◌<◌, ◌^◌, length};
-
 use again::again;
 use anyhow::{Result, anyhow, bail};
 use c_printer::print;
@@ -20,6 +18,7 @@ use std::rt::Runtime;
 use std::{env, fs, str};
 
 // What a text holds.
+#[derive(Clone, Copy, PartialEq, Eq)]
 enum Answer {
     Whole(usize),
     Refused(u32),
@@ -105,7 +104,7 @@ fn count<R: Runtime + AllocGlobal>(rt: &R, file: &str) -> Result<()> {
 
 // ---- prefixes
 
-fn put_run<R: Runtime>(rt: &R, from: usize, to: usize, answer: &Answer) -> Result<()> {
+fn put_run<R: Runtime>(rt: &R, from: usize, to: usize, answer: Answer) -> Result<()> {
     match answer {
         Answer::Whole(items) => println!(rt; "bytes {from} to {to}: {items} items")?,
         Answer::Refused(items) => println!(rt; "bytes {from} to {to}: refused after {items}")?,
@@ -113,26 +112,18 @@ fn put_run<R: Runtime>(rt: &R, from: usize, to: usize, answer: &Answer) -> Resul
     Ok(())
 }
 
-fn is_same(left: &Answer, right: &Answer) -> bool {
-    match (left, right) {
-        (Answer::Whole(a), Answer::Whole(b)) => a == b,
-        (Answer::Refused(a), Answer::Refused(b)) => a == b,
-        _ => false,
-    }
-}
-
 fn prefixes<R: Runtime + AllocGlobal>(rt: &R, text: &[u8]) -> Result<()> {
     let mut from = 0;
     let mut run = answer_of(rt, &text[..0])?;
     for to in 1..=text.len() {
         let next = answer_of(rt, &text[..to])?;
-        if !is_same(&run, &next) {
-            put_run(rt, from, to - 1, &run)?;
+        if next != run {
+            put_run(rt, from, to - 1, run)?;
             from = to;
             run = next;
         }
     }
-    put_run(rt, from, text.len(), &run)
+    put_run(rt, from, text.len(), run)
 }
 
 fn part_of(word: &str) -> Option<Part> {
