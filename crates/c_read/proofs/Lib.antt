@@ -1,2 +1,3 @@
 mod Trees
 mod Counts
+mod Texts

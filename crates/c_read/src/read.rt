@@ -46,6 +46,8 @@ pub fn read_c(alloc: Global, bytes: &[u8]) -> Result<CFile, CStop>
 {
     let tokens = tokens(alloc, bytes)?;
     let items = cut(alloc, tokens)?;
-    let items = trees(alloc, items.as_slice())?;
-    Ok(CFile { items })
+    match trees(alloc, items.as_slice()) {
+        Ok(items) => Ok(CFile { items }),
+        Err(stop) => Err(stop),
+    }
 }

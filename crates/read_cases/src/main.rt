@@ -55,21 +55,22 @@ fn show_text<R: Runtime + AllocGlobal>(rt: &R, name: &str, text: &[u8]) -> Resul
 }
 
 fn show<R: Runtime + AllocGlobal>(rt: &R, file: &str) -> Result<()> {
-    let mut name = "";
+    let mut name = String::new(rt.alloc());
     let mut text = String::new(rt.alloc());
     for line in file.lines() {
         if let Some(next) = line.strip_prefix("-- ") {
             if !name.is_empty() {
-                show_text(rt, name, text.as_bytes())?;
+                show_text(rt, name.as_str(), text.as_bytes())?;
             }
-            name = next;
+            name.clear();
+            name.push_str(next)?;
             text.clear();
             continue;
         }
         text.push_str(line)?;
         text.push('\n')?;
     }
-    show_text(rt, name, text.as_bytes())
+    show_text(rt, name.as_str(), text.as_bytes())
 }
 
 // ---- texts whose items are counted
