@@ -1,2 +1,4 @@
-pub mod Texts
+pub mod FirstTokens
+pub mod HeadRows
 pub mod Rows
+pub mod Texts

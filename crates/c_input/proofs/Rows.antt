@@ -56,3 +56,11 @@ next form spell old r new found x rest is finds every f e = next_one form spell 
 pub missed : {A : Type 0} (form : A → Type 0) (spell : A → List CToken) (old : List CToken) (r : Option A) (x : A) (rest : List CToken)
     → r ≡ None → ReadsEvery form spell old r → form x → old ≡ spell x ++ rest → ⊥
 missed form spell old r x rest is every f e = cc (every x rest f e)
+
+pub value_of : {A : Type 0} {a b : A} → Some a ≡ Some b → a ≡ b
+value_of e = cc
+
+-- what is left behind a tree that was read where it stood
+pub left_of : {A : Type 0} (spell : A → List CToken) {found x : A} {old new rest : List CToken} → Some found ≡ Some x → old ≡ spell found ++ new → old ≡ spell x ++ rest → new ≡ rest
+left_of spell {found = found} {x = x} {new = new} {rest = rest} same here e =
+    same_left (spell x) new rest (ap (λ t. spell t ++ new) (sym (value_of same)) ∙ (sym here ∙ e))

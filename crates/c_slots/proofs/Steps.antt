@@ -1,18 +1,9 @@
--- What is left behind a tree that was read where it stood.
-use Rattle.std.proofs.Common.{◌≡◌, true, false, List, ◌++◌, Some, None, sym, ap, ◌∙◌}
+-- What cannot be.
+use Rattle.std.proofs.Common.{◌≡◌, Bool, true, false, Some, None}
 use Rattle.std.specs.Prelude.{Option}
-use Rattle.c_state.specs.CTokens.{CToken}
-use Rattle.c_input.proofs.Rows.{same_left}
-
-pub value_of : {A : Type 0} {a b : A} → Some a ≡ Some b → a ≡ b
-value_of e = cc
 
 pub never : false ≡ true → ⊥
 never e = cc
 
 pub lost : {A : Type 0} {r : Option A} {a : A} → r ≡ None → r ≡ Some a → ⊥
 lost e f = cc
-
-pub left_of : {A : Type 0} (spell : A → List CToken) {found x : A} {old new rest : List CToken} → Some found ≡ Some x → old ≡ spell found ++ new → old ≡ spell x ++ rest → new ≡ rest
-left_of spell {found = found} {x = x} {new = new} {rest = rest} same here e =
-    same_left (spell x) new rest (ap (λ t. spell t ++ new) (sym (value_of same)) ∙ (sym here ∙ e))

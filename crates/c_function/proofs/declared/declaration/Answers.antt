@@ -1,11 +1,8 @@
-use Rattle.std.proofs.Common.{◌≡◌, ◌++◌, ◌∷◌, [], List, Some, sym, ap, subst, ◌∙◌}
+use Rattle.std.proofs.Common.{◌≡◌, ◌++◌, ◌∷◌, List, Some, sym, ap, ◌∙◌}
 use Rattle.std.specs.Prelude.{⊤}
 use Rattle.c_state.specs.CTokens.{CToken}
-use Rattle.c_tree.specs.declared.item.Declaration.{Declaration}
-use Rattle.c_tree.specs.declared.item.InitialValue.{InitialValue}
 use Rattle.c_tree.specs.declared.value.CType.{CType}
-use Rattle.c_tree.specs.Forms.{IsDeclared}
-use Rattle.c_tree.specs.Items.{declaration_spelling, initial_spelling}
+use Rattle.c_tree.specs.Items.{initial_spelling}
 use Rattle.c_tree.specs.Names.{variable_token}
 use Rattle.c_tree.specs.Values.{type_spelling}
 use Rattle.c_input.proofs.Rows.{next}

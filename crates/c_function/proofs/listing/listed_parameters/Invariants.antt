@@ -1,6 +1,5 @@
 use Rattle.std.proofs.Common.{length}
 use Rattle.c_tree.specs.Forms.{IsParameter}
-use Rattle.c_tree.specs.declared.item.Parameter.{Parameter}
 use Rattle.c_tree.specs.Items.{parameter_spelling}
 use Rattle.c_operand.proofs.Commas.{AreListed}
 use Rattle.c_function.proofs.listing.listed_parameters.Given as goal

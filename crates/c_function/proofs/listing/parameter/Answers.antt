@@ -1,10 +1,7 @@
-use Rattle.std.proofs.Common.{◌≡◌, ◌++◌, ◌∷◌, [], List, Some, ◌∙◌}
+use Rattle.std.proofs.Common.{◌≡◌, ◌∷◌, [], Some, ◌∙◌}
 use Rattle.std.specs.Prelude.{⊤}
-use Rattle.c_state.specs.CTokens.{CToken}
-use Rattle.c_tree.specs.declared.item.Parameter.{Parameter}
 use Rattle.c_tree.specs.declared.name.Variable.TheVariants as variable
 use Rattle.c_tree.specs.declared.value.CType.{CType}
-use Rattle.c_tree.specs.Items.{parameter_spelling}
 use Rattle.c_tree.specs.Names.{variable_token}
 use Rattle.c_tree.specs.Values.{type_spelling}
 use Rattle.c_input.proofs.Rows.{next}

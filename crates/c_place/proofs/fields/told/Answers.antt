@@ -1,5 +1,5 @@
 use Rattle.std.proofs.Common.{Some, sym, ap, drop, ◌∙◌}
-use Rattle.c_place.proofs.Steps.{value_of}
+use Rattle.c_input.proofs.Rows.{value_of}
 use Rattle.c_place.proofs.fields.told.Goals as goal
 
 pub returns-clause-every : goal.returns-clause-every

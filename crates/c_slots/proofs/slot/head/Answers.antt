@@ -1,7 +1,7 @@
 use Rattle.std.proofs.Common.{Some, sym, ap, drop, ◌∙◌}
 use Rattle.std.proofs.lemmas.List.{append_assoc}
 use Rattle.c_tree.specs.Values.{result_spelling}
-use Rattle.c_slots.proofs.Steps.{left_of, value_of}
+use Rattle.c_input.proofs.Rows.{left_of, value_of}
 use Rattle.c_slots.proofs.slot.head.Goals as goal
 
 pub returns-then-not-fixed-clause-every : goal.returns-then-not-fixed-clause-every

@@ -2,10 +2,10 @@ use Rattle.std.proofs.Common.{◌∷◌, Some, ◌∙◌}
 use Rattle.std.specs.Prelude.{⊤}
 use Rattle.c_state.specs.CTokens.{sign}
 use Rattle.c_tree.specs.Items.{types_spelling}
-use Rattle.c_input.proofs.Rows.{next_one}
+use Rattle.c_input.proofs.Rows.{left_of, next_one, value_of}
 use Rattle.c_slots.specs.Slots.{head_tokens}
 use Rattle.c_slots.proofs.Firsts.{slot_parts}
-use Rattle.c_slots.proofs.Steps.{left_of, lost, value_of}
+use Rattle.c_slots.proofs.Steps.{lost}
 use Rattle.c_slots.proofs.slot.slot.Goals as goal
 
 pub returns-in_default-clause-every : goal.returns-in_default-clause-every

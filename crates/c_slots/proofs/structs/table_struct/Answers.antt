@@ -2,12 +2,12 @@ use Rattle.std.proofs.Common.{◌≡◌, ◌∷◌, Some, refl, sym, ap, subst, 
 use Rattle.std.specs.List.{flat_map, AllByRecursion}
 use Rattle.c_state.specs.CTokens.{sign}
 use Rattle.c_tree.specs.Forms.{AreSlots}
-use Rattle.c_input.proofs.Rows.{next_one}
+use Rattle.c_input.proofs.Rows.{left_of, next_one, value_of}
 use Rattle.c_slots.specs.declared.structs.Opened.{Opened}
 use Rattle.c_slots.specs.Slots.{opened_tokens, slot_tokens, IsSlot}
 use Rattle.c_slots.proofs.Firsts.{struct_parts}
 use Rattle.c_slots.proofs.Numbers.{slots_within}
-use Rattle.c_slots.proofs.Steps.{left_of, lost, never, value_of}
+use Rattle.c_slots.proofs.Steps.{lost, never}
 use Rattle.c_slots.proofs.structs.table_struct.Goals as goal
 
 pub returns-in_default-clause-every : goal.returns-in_default-clause-every

@@ -4,9 +4,9 @@ use Rattle.c_slots.specs.declared.tables.TableHead.{TableHead}
 use Rattle.c_slots.specs.declared.tables.TableValue.{TableValue}
 use Rattle.c_slots.specs.Tables.{table_head_tokens, value_tokens, IsValue}
 use Rattle.c_input.specs.Reads.{Finds}
-use Rattle.c_input.proofs.Rows.{next_one}
+use Rattle.c_input.proofs.Rows.{left_of, next_one, value_of}
 use Rattle.c_slots.proofs.Firsts.{braces_once, string_apart, table_joins, table_parts}
-use Rattle.c_slots.proofs.Steps.{left_of, lost, never, value_of}
+use Rattle.c_slots.proofs.Steps.{lost, never}
 use Rattle.c_slots.proofs.tables.method_table.Goals as goal
 
 pub returns-in_default-clause-every : goal.returns-in_default-clause-every

@@ -1,5 +1,5 @@
 use Rattle.std.proofs.Common.{◌++◌, Some, sym, ◌∙◌}
-use Rattle.c_place.proofs.Steps.{left_of, value_of}
+use Rattle.c_input.proofs.Rows.{left_of, value_of}
 use Rattle.c_statement.proofs.Chain.{front_of, missing}
 use Rattle.std.specs.List.{AllByRecursion}
 use Rattle.c_tree.specs.Forms.{IsArgument}

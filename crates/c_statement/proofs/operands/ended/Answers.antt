@@ -1,4 +1,4 @@
-use Rattle.c_place.proofs.Steps.{left_of}
+use Rattle.c_input.proofs.Rows.{left_of}
 use Rattle.c_statement.proofs.Chain.{front_of, joined, missing}
 use Rattle.c_statement.specs.Sources.{end}
 use Rattle.c_tree.specs.Values.{value_spelling}

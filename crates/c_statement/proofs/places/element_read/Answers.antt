@@ -1,6 +1,6 @@
 use Rattle.std.proofs.Common.{◌≡◌, ◌++◌, List}
 use Rattle.c_state.specs.CTokens.{CToken}
-use Rattle.c_place.proofs.Steps.{left_of}
+use Rattle.c_input.proofs.Rows.{left_of}
 use Rattle.c_statement.proofs.Chain.{front_of}
 use Rattle.c_statement.specs.declared.source.Source.{Source}
 use Rattle.c_statement.specs.declared.source.Source.TheVariants as source

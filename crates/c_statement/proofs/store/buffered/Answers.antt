@@ -1,6 +1,6 @@
 use Rattle.std.proofs.Common.{◌≡◌, ◌++◌, List, Some, ap}
 use Rattle.c_state.specs.CTokens.{CToken}
-use Rattle.c_place.proofs.Steps.{value_of}
+use Rattle.c_input.proofs.Rows.{value_of}
 use Rattle.c_statement.proofs.Chain.{front_of, missing}
 use Rattle.c_tree.specs.Statements.{view}
 use Rattle.c_statement.specs.declared.store.Store.{Store}

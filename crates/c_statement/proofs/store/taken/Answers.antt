@@ -1,5 +1,5 @@
 use Rattle.std.proofs.Common.{sym, ap, drop, ◌∙◌}
-use Rattle.c_place.proofs.Steps.{left_of}
+use Rattle.c_input.proofs.Rows.{left_of}
 use Rattle.c_statement.proofs.Chain.{front_of}
 use Rattle.c_tree.specs.Statements.{buffer_of}
 use Rattle.c_statement.proofs.store.taken.Goals as goal
