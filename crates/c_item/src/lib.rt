@@ -3,7 +3,10 @@
 
 mod declared;
 mod fixed;
-mod item;
+
 mod kinds;
 mod opening;
 mod typed;
+mod whole;
+
+pub use whole::item;

@@ -1,6 +1,6 @@
 mod Ends
 mod Fields
-mod Lacking
+pub mod Lacking
 mod Parted
 pub mod Spelled
 pub mod Steps

@@ -9,7 +9,7 @@ use Rattle.c_item.specs.Kinds.{declared_tokens, IsDeclared, IsUnbodied}
 use Rattle.c_item.proofs.Opens.{no_static}
 use Rattle.c_item.proofs.Results.{if_ok}
 use Rattle.c_item.proofs.Spelled.{declared_item, declared_spelled, sides}
-use Rattle.c_item.proofs.item.without_body.Goals as goal
+use Rattle.c_item.proofs.whole.without_body.Goals as goal
 
 tail_same : (x : CToken) (xs ys : List CToken) → x ∷ xs ≡ x ∷ ys → xs ≡ ys
 tail_same x xs ys e = cc

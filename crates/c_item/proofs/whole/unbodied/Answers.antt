@@ -8,7 +8,7 @@ use Rattle.c_item.specs.Kinds.{declared_tokens, IsDeclared}
 use Rattle.c_item.specs.Words.{opening_at}
 use Rattle.c_item.proofs.Opens.{opens}
 use Rattle.c_item.proofs.Lasts.{append_nil}
-use Rattle.c_item.proofs.item.unbodied.Goals as goal
+use Rattle.c_item.proofs.whole.unbodied.Goals as goal
 
 pub returns-then-is_done-clause-every : goal.returns-then-is_done-clause-every
 returns-then-is_done-clause-every c = λ t form e.

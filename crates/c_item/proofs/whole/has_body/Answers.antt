@@ -3,7 +3,7 @@ use Rattle.c_cut.specs.Shown.{token_shown}
 use Rattle.c_state.specs.CTokens.{sign}
 use Rattle.c_table.proofs.Steps.{some_same}
 use Rattle.c_item.proofs.Lasts.{last_shown}
-use Rattle.c_item.proofs.item.has_body.Goals as goal
+use Rattle.c_item.proofs.whole.has_body.Goals as goal
 
 pub returns-in-len1-up : goal.returns-in-len1-up
 returns-in-len1-up c =
