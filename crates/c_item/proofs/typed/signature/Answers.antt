@@ -7,9 +7,6 @@ use Rattle.c_input.proofs.Rows.{next}
 use Rattle.c_table.proofs.Steps.{assoc}
 use Rattle.c_item.proofs.typed.signature.Goals as goal
 
-
-
-
 pub returns-else-fixed-clause-every : goal.returns-else-fixed-clause-every
 returns-else-fixed-clause-every c = λ x rest form e.
     let left : c.word.new.self ≡ (types_spelling x.1 ++ (sign ";" ∷ [])) ++ rest = cc (c.in-Some.ensures.some, e) in
