@@ -3,7 +3,6 @@
 
 mod declared;
 mod fixed;
-
 mod kinds;
 mod opening;
 mod typed;

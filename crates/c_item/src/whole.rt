@@ -12,7 +12,6 @@ ghost use Rattle.c_item.specs.Kinds.{declared_tokens, last_of, IsBodied, IsDecla
 use crate::declared::declared;
 use crate::fixed::format_test;
 use crate::opening::opening;
-
 use c_cut::Token;
 use c_function::function;
 use c_input::{Input, Piece, behind, is_piece};
@@ -21,11 +20,7 @@ use cy_base::OutOfMemory;
 use std::alloc::Global;
 
 // Reads an item that is no function, without the `static` before it.
-fn unbodied(
-    alloc: Global,
-    is_static: bool,
-    tokens: &[Token],
-) -> Result<Option<CItem>, OutOfMemory>
+fn unbodied(alloc: Global, is_static: bool, tokens: &[Token]) -> Result<Option<CItem>, OutOfMemory>
     ensures some { IfOk result (λ found. IfSome found (λ t. IsDeclared is_static t × (declared_tokens t ≡ item_shown tokens.now))) }
     ensures every { IfOk result (λ found. (t : ItemTree) → IsDeclared is_static t → declared_tokens t ≡ item_shown tokens.now → found ≡ Some t) }
 {

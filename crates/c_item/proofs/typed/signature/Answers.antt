@@ -1,14 +1,11 @@
 use Rattle.std.proofs.Common.{◌≡◌, ◌++◌, ◌∷◌, [], List, ◌∙◌}
 use Rattle.std.specs.Prelude.{⊤}
-use Rattle.c_state.specs.CTokens.{CToken, Word, sign}
+use Rattle.c_state.specs.CTokens.{sign}
 use Rattle.c_tree.specs.Items.{types_spelling}
 use Rattle.c_tree.specs.declared.value.CType.{CType}
 use Rattle.c_input.proofs.Rows.{next}
 use Rattle.c_table.proofs.Steps.{assoc}
 use Rattle.c_item.proofs.typed.signature.Goals as goal
-
-
-
 
 pub returns-else-fixed-clause-every : goal.returns-else-fixed-clause-every
 returns-else-fixed-clause-every c = λ x rest form e.
