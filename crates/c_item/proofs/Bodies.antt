@@ -1,12 +1,11 @@
 -- Functions, and the function that tests a format.
-use Rattle.std.proofs.Common.{◌≡◌, ℕ, List, [], ◌∷◌, ◌++◌, Some, refl, sym, ap, ◌∙◌}
+use Rattle.std.proofs.Common.{◌≡◌, ℕ, List, ◌∷◌, ◌++◌, refl, sym, ap, ◌∙◌}
 use Rattle.std.specs.Prelude.{Bool, true, false, ◌&&◌, codes}
 use Rattle.std.specs.Str.{bytes_eq}
 use Rattle.c_state.specs.CTokens.{CToken, Word, sign, c_tokens, tokens_from}
 use Rattle.c_tree.specs.declared.item.CFunction.{CFunction}
 use Rattle.c_tree.specs.declared.item.CHead.{CHead}
 use Rattle.c_tree.specs.declared.item.CHead.TheVariants as head
-use Rattle.c_tree.specs.declared.item.CItem.{CItem}
 use Rattle.c_tree.specs.declared.item.CItem.TheVariants as item
 use Rattle.c_tree.specs.declared.value.CResult.{CResult}
 use Rattle.c_tree.specs.declared.value.CResult.TheVariants as result

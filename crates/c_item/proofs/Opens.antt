@@ -1,5 +1,5 @@
 -- What the tokens of an item open, and that none begins with `static`.
-use Rattle.std.proofs.Common.{◌≡◌, ℕ, List, [], ◌∷◌, ◌++◌, refl, sym, ap, ◌∙◌}
+use Rattle.std.proofs.Common.{◌≡◌, ℕ, List, ◌∷◌, ◌++◌, refl, sym, ap, ◌∙◌}
 use Rattle.std.specs.Prelude.{Bool, true, false, codes}
 use Rattle.std.specs.Str.{bytes_eq}
 use Rattle.c_state.specs.CTokens.{CToken, Word, word, c_tokens, tokens_from}

@@ -1,5 +1,5 @@
 -- Fixed tokens that are taken in parts.
-use Rattle.std.proofs.Common.{◌≡◌, List, [], ◌∷◌, ◌++◌, ap, sym, ◌∙◌}
+use Rattle.std.proofs.Common.{◌≡◌, List, ◌++◌, ap, sym, ◌∙◌}
 use Rattle.std.specs.Prelude.{◌≢◌, Bool, true, false}
 use Rattle.c_state.specs.CTokens.{CToken}
 use Rattle.c_input.specs.Reads.{Passes}

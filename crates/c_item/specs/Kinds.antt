@@ -5,7 +5,6 @@ use Rattle.c_state.specs.CTokens.{CToken}
 use Rattle.c_tree.specs.declared.item.CItem.{CItem}
 use Rattle.c_tree.specs.declared.item.CItem.TheVariants as item
 use Rattle.c_tree.specs.Forms.{IsFunction}
-use Rattle.c_slots.specs.declared.structs.TableStruct.{TableStruct}
 use Rattle.c_slots.specs.Slots.{table_struct_tokens, IsTableStruct}
 use Rattle.c_slots.specs.Tables.{method_table_tokens, IsMethodTable}
 use Rattle.c_table.specs.Tables.{item_tokens, AreMethods, AreProperties, IsDefinition, IsInstanceStruct, IsMapping, IsSequence, IsTypeObject}

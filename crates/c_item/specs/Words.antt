@@ -1,5 +1,5 @@
 -- Which kind of item two tokens begin. The project's own.
-use Rattle.std.specs.Prelude.{ℕ, List, [], ◌∷◌, Bool, nat_eq, slice_index, if◌then◌else◌, codes}
+use Rattle.std.specs.Prelude.{ℕ, List, ◌∷◌, Bool, nat_eq, slice_index, if◌then◌else◌, codes}
 use Rattle.std.specs.Str.{bytes_eq}
 use Rattle.c_state.specs.CTokens.{CToken, Word}
 use Rattle.c_item.specs.declared.kinds.Opening.{Opening}

@@ -1,4 +1,4 @@
-use Rattle.std.proofs.Common.{◌≡◌, ◌++◌, List, Some, ◌∙◌}
+use Rattle.std.proofs.Common.{◌≡◌, ◌++◌, List, ◌∙◌}
 use Rattle.c_state.specs.CTokens.{CToken}
 use Rattle.c_tree.specs.declared.item.CItem.{CItem}
 use Rattle.c_tree.specs.declared.item.CItem.TheVariants as item

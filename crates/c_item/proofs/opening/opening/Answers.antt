@@ -1,4 +1,4 @@
-use Rattle.std.proofs.Common.{◌≡◌, ◌∷◌, sym, ap, ◌∙◌}
+use Rattle.std.proofs.Common.{sym, ap, ◌∙◌}
 use Rattle.c_item.specs.Words.{opening_at}
 use Rattle.c_item.proofs.Openings.{no_word, one_word, two_words}
 use Rattle.c_item.proofs.opening.opening.Goals as goal

@@ -1,4 +1,4 @@
-use Rattle.std.proofs.Common.{◌≡◌, Some, sym, ap, ◌∙◌}
+use Rattle.std.proofs.Common.{Some, sym, ap, ◌∙◌}
 use Rattle.c_cut.specs.Shown.{token_shown}
 use Rattle.c_state.specs.CTokens.{sign}
 use Rattle.c_table.proofs.Steps.{some_same}

@@ -1,4 +1,4 @@
-use Rattle.std.proofs.Common.{◌≡◌, [], sym, ◌∙◌}
+use Rattle.std.proofs.Common.{[], sym, ◌∙◌}
 use Rattle.c_item.proofs.whole.is_format_test.Goals as goal
 
 pub returns-then-not-format_test : goal.returns-then-not-format_test

@@ -1,6 +1,5 @@
-use Rattle.std.proofs.Common.{◌≡◌, ◌++◌, [], List, Some, sym, subst, ap, ◌∙◌}
+use Rattle.std.proofs.Common.{◌≡◌, ◌++◌, [], sym, subst, ap, ◌∙◌}
 use Rattle.std.specs.Prelude.{Option}
-use Rattle.c_state.specs.CTokens.{CToken}
 use Rattle.c_tree.specs.declared.item.CItem.{CItem}
 use Rattle.c_input.specs.Reads.{Finds}
 use Rattle.c_input.proofs.Rows.{same_left}

@@ -1,5 +1,5 @@
-use Rattle.std.proofs.Common.{◌≡◌, List, Some, refl, sym, subst, ap, ◌∙◌}
-use Rattle.std.specs.Prelude.{Option, IfSome, None}
+use Rattle.std.proofs.Common.{◌≡◌, Some, refl, sym, subst, ap, ◌∙◌}
+use Rattle.std.specs.Prelude.{Option, IfSome}
 use Rattle.c_cut.specs.Shown.{item_shown}
 use Rattle.c_tree.specs.declared.item.CFunction.{CFunction}
 use Rattle.c_tree.specs.declared.item.CItem.{CItem}
