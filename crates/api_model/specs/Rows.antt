@@ -200,9 +200,21 @@ reads =
     ∷ is "PyTuple_GET_ITEM" (unasked Borrowed)
     ∷ []
 
+-- new, NULL raises
+unfoldable pub made_rows : List Function
+made_rows = sums ++ (shifts ++ (sums_in_place ++ (shifts_in_place ++ (protocols ++ (numbers_and_texts ++ containers_and_modules)))))
+
+-- the other rows with an entry
+unfoldable pub asked_rows : List Function
+asked_rows = objects ++ (changes ++ (numbers ++ handlers))
+
+-- the rows without an entry
+unfoldable pub unasked_rows : List Function
+unasked_rows = counts ++ (errors ++ (locks ++ reads))
+
 -- the whole table
-abbrev pub api_table : List Function
-api_table = sums ++ (shifts ++ (sums_in_place ++ (shifts_in_place ++ (protocols ++ (numbers_and_texts ++ (containers_and_modules ++ (objects ++ (changes ++ (numbers ++ (handlers ++ (counts ++ (errors ++ (locks ++ reads)))))))))))))
+unfoldable pub api_table : List Function
+api_table = made_rows ++ (asked_rows ++ unasked_rows)
 
 -- the row of a name in a table
 abbrev pub row_in : List Function → List ℕ → Option ApiRow

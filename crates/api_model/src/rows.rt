@@ -1,6 +1,6 @@
 //! The rows of the Python/C API that the written C calls.
 ghost use Rattle.std.specs.Prelude.{◌≡◌, ℕ, Some};
-ghost use Rattle.api_model.specs.Rows.{asked, unasked, made, done, with_error, without_lock, stealing, row_in, row_of, sums, shifts, sums_in_place, shifts_in_place, protocols, numbers_and_texts, containers_and_modules, objects, changes, numbers, handlers, counts, errors, locks, reads};
+ghost use Rattle.api_model.specs.Rows.{asked, unasked, made, done, with_error, without_lock, stealing, row_in, row_of, sums, shifts, sums_in_place, shifts_in_place, protocols, numbers_and_texts, containers_and_modules, objects, changes, numbers, handlers, counts, errors, locks, reads, made_rows, asked_rows, unasked_rows};
 
 /// What a call gives. `Number` also stands for what is neither an object nor nothing. The project's own.
 #[derive(Clone, Copy, Debug, PartialEq, Eq)]
@@ -351,24 +351,76 @@ fn reads(name: &[u8]) -> Option<ApiRow>
     None
 }
 
-/// The row of the function with this name, where the written C may call it.
-#[tactic(auto, unfolding(crate::specs::Rows::row_of), using(crate::proofs::Rows::row_in_append))]
+// The rows that give a new object.
+#[tactic(auto, unfolding(crate::specs::Rows::made_rows), using(crate::proofs::Appended::appended))]
+fn made_row(name: &[u8]) -> Option<ApiRow>
+    ensures { result ≡ row_in made_rows name.now }
+{
+    if let Some(row) = sums(name) {
+        return Some(row);
+    }
+    if let Some(row) = shifts(name) {
+        return Some(row);
+    }
+    if let Some(row) = sums_in_place(name) {
+        return Some(row);
+    }
+    if let Some(row) = shifts_in_place(name) {
+        return Some(row);
+    }
+    if let Some(row) = protocols(name) {
+        return Some(row);
+    }
+    if let Some(row) = numbers_and_texts(name) {
+        return Some(row);
+    }
+    containers_and_modules(name)
+}
+
+// The other rows with an entry.
+#[tactic(auto, unfolding(crate::specs::Rows::asked_rows), using(crate::proofs::Appended::appended))]
+fn asked_row(name: &[u8]) -> Option<ApiRow>
+    ensures { result ≡ row_in asked_rows name.now }
+{
+    if let Some(row) = objects(name) {
+        return Some(row);
+    }
+    if let Some(row) = changes(name) {
+        return Some(row);
+    }
+    if let Some(row) = numbers(name) {
+        return Some(row);
+    }
+    handlers(name)
+}
+
+// The rows without an entry.
+#[tactic(auto, unfolding(crate::specs::Rows::unasked_rows), using(crate::proofs::Appended::appended))]
+fn unasked_row(name: &[u8]) -> Option<ApiRow>
+    ensures { result ≡ row_in unasked_rows name.now }
+{
+    if let Some(row) = counts(name) {
+        return Some(row);
+    }
+    if let Some(row) = errors(name) {
+        return Some(row);
+    }
+    if let Some(row) = locks(name) {
+        return Some(row);
+    }
+    reads(name)
+}
+
+/// The row of the function with this name: none where the written C doesn't call it.
+#[tactic(auto, unfolding(crate::specs::Rows::row_of, crate::specs::Rows::api_table), using(crate::proofs::Appended::appended))]
 pub fn row(name: &[u8]) -> Option<ApiRow>
     ensures { result ≡ row_of name.now }
 {
-    sums(name)
-        .or_else(|| shifts(name))
-        .or_else(|| sums_in_place(name))
-        .or_else(|| shifts_in_place(name))
-        .or_else(|| protocols(name))
-        .or_else(|| numbers_and_texts(name))
-        .or_else(|| containers_and_modules(name))
-        .or_else(|| objects(name))
-        .or_else(|| changes(name))
-        .or_else(|| numbers(name))
-        .or_else(|| handlers(name))
-        .or_else(|| counts(name))
-        .or_else(|| errors(name))
-        .or_else(|| locks(name))
-        .or_else(|| reads(name))
+    if let Some(row) = made_row(name) {
+        return Some(row);
+    }
+    if let Some(row) = asked_row(name) {
+        return Some(row);
+    }
+    unasked_row(name)
 }
