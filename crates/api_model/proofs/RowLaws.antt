@@ -1,5 +1,5 @@
 -- What a test says of each line of the table it says of each name that has a row.
-use Rattle.std.specs.Prelude.{ℕ, Bool, true, false, not, ◌&&◌, ◌||◌, List, [], ◌∷◌, ◌++◌, Option, Some, None, OnSome, IsTrue, IsFalse, ◌≡◌, length, if◌then◌else◌}
+use Rattle.std.specs.Prelude.{ℕ, Bool, true, false, not, ◌&&◌, ◌||◌, List, [], ◌∷◌, ◌++◌, Option, Some, None, IfSome, IsTrue, IsFalse, ◌≡◌, length, if◌then◌else◌}
 use Rattle.std.specs.List.{list_all}
 use Rattle.std.specs.Str.{bytes_eq}
 use Rattle.std.proofs.Common.{refl, sym, subst}
@@ -30,7 +30,7 @@ same-is false true h = absurd (false≢true h)
 same-is false false h = refl
 
 abbrev Says : (List ℕ → ApiRow → Bool) → List ℕ → Option ApiRow → Type 0
-Says test name r = OnSome r (λ (row : ApiRow). test name row ≡ true)
+Says test name r = IfSome r (λ (row : ApiRow). test name row ≡ true)
 
 says_by : (test : List ℕ → ApiRow → Bool) (f : Function) (other : Option ApiRow) (name : List ℕ) (b : Bool) → bytes_eq name f.name ≡ b
     → test f.name f.row ≡ true → Says test name other → Says test name (if b then Some f.row else other)
@@ -48,7 +48,7 @@ of_row : (test : List ℕ → ApiRow → Bool) → list_all (λ (f : Function). 
 unfolding row_of
 of_row test h name = said test api_table h name
 
-lift : (P Q : ApiRow → Type 0) → ((r : ApiRow) → P r → Q r) → (o : Option ApiRow) → OnSome o P → OnSome o Q
+lift : (P Q : ApiRow → Type 0) → ((r : ApiRow) → P r → Q r) → (o : Option ApiRow) → IfSome o P → IfSome o Q
 lift P Q f None h = tt
 lift P Q f (Some r) h = f r h
 
@@ -66,12 +66,12 @@ clean_tested : list_all (λ (f : Function). clean_test f.name f.row) api_table �
 unfolding api_table made_rows asked_rows unasked_rows sums shifts sums_in_place shifts_in_place protocols numbers_and_texts containers_and_modules objects changes numbers handlers counts errors locks reads may_have_error
 clean_tested = refl
 
-pub lock_rows : (name : List ℕ) → OnSome (row_of name) (λ (r : ApiRow). r.lock ≡ not (may_lack_lock name))
+pub lock_rows : (name : List ℕ) → IfSome (row_of name) (λ (r : ApiRow). r.lock ≡ not (may_lack_lock name))
 lock_rows name =
     lift (λ (r : ApiRow). lock_test name r ≡ true) (λ (r : ApiRow). r.lock ≡ not (may_lack_lock name))
     (λ (r : ApiRow) (h : lock_test name r ≡ true). same-is r.lock (not (may_lack_lock name)) h) (row_of name) (of_row lock_test lock_tested name)
 
-pub clean_rows : (name : List ℕ) → OnSome (row_of name) (λ (r : ApiRow). r.clean ≡ not (may_have_error name))
+pub clean_rows : (name : List ℕ) → IfSome (row_of name) (λ (r : ApiRow). r.clean ≡ not (may_have_error name))
 clean_rows name =
     lift (λ (r : ApiRow). clean_test name r ≡ true) (λ (r : ApiRow). r.clean ≡ not (may_have_error name))
     (λ (r : ApiRow) (h : clean_test name r ≡ true). same-is r.clean (not (may_have_error name)) h) (row_of name) (of_row clean_test clean_tested name)
@@ -84,14 +84,14 @@ entry_tested : list_all (λ (f : Function). entry_test f.name f.row) api_table �
 unfolding api_table made_rows asked_rows unasked_rows sums shifts sums_in_place shifts_in_place protocols numbers_and_texts containers_and_modules objects changes numbers handlers counts errors locks reads
 entry_tested = refl
 
-then : (a b : Bool) → (not a || b) ≡ true → a ≡ true → b ≡ true
-then true b h e = h
-then false b h e = absurd (false≢true e)
+implied : (a b : Bool) → (not a || b) ≡ true → a ≡ true → b ≡ true
+implied true b h e = h
+implied false b h e = absurd (false≢true e)
 
-pub entry_rows : (name : List ℕ) → OnSome (row_of name) (λ (r : ApiRow). r.entry ≡ true → r.lock ≡ true)
+pub entry_rows : (name : List ℕ) → IfSome (row_of name) (λ (r : ApiRow). r.entry ≡ true → r.lock ≡ true)
 entry_rows name =
     lift (λ (r : ApiRow). entry_test name r ≡ true) (λ (r : ApiRow). r.entry ≡ true → r.lock ≡ true)
-    (λ (r : ApiRow) (h : entry_test name r ≡ true). then r.entry r.lock h) (row_of name) (of_row entry_test entry_tested name)
+    (λ (r : ApiRow) (h : entry_test name r ≡ true). implied r.entry r.lock h) (row_of name) (of_row entry_test entry_tested name)
 
 pub table_size : length api_table ≡ 77
 unfolding api_table made_rows asked_rows unasked_rows sums shifts sums_in_place shifts_in_place protocols numbers_and_texts containers_and_modules objects changes numbers handlers counts errors locks reads

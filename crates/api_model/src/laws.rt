@@ -1,5 +1,5 @@
 //! What holds for each row of the table.
-ghost use Rattle.std.specs.Prelude.{◌≡◌, ℕ, List, OnSome, IsTrue, length, not, true};
+ghost use Rattle.std.specs.Prelude.{◌≡◌, ℕ, List, IfSome, IsTrue, length, not, true};
 ghost use Rattle.api_model.specs.Rows.{api_table, row_of};
 ghost use Rattle.api_model.specs.RowLaws.{are_distinct, may_have_error, may_lack_lock};
 
@@ -13,17 +13,17 @@ pub fn functions_are_distinct()
 /// Each row with an entry needs the lock.
 #[tactic(auto, using(crate::proofs::RowLaws::entry_rows))]
 pub fn entries_need_the_lock()
-    ensures { (name : List ℕ) → OnSome (row_of name) (λ r. r.entry ≡ true → r.lock ≡ true) }
+    ensures { (name : List ℕ) → IfSome (row_of name) (λ r. r.entry ≡ true → r.lock ≡ true) }
 {}
 
 /// Each row needs the lock, save the two that take it.
 #[tactic(auto, using(crate::proofs::RowLaws::lock_rows))]
 pub fn rows_need_the_lock()
-    ensures { (name : List ℕ) → OnSome (row_of name) (λ r. r.lock ≡ not (may_lack_lock name)) }
+    ensures { (name : List ℕ) → IfSome (row_of name) (λ r. r.lock ≡ not (may_lack_lock name)) }
 {}
 
 /// Each row needs that no exception is set, save the error rows, the counts and the four lock calls.
 #[tactic(auto, using(crate::proofs::RowLaws::clean_rows))]
 pub fn rows_are_clean()
-    ensures { (name : List ℕ) → OnSome (row_of name) (λ r. r.clean ≡ not (may_have_error name)) }
+    ensures { (name : List ℕ) → IfSome (row_of name) (λ r. r.clean ≡ not (may_have_error name)) }
 {}
