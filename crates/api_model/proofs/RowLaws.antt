@@ -1,13 +1,11 @@
 -- What a test says of each line of the table it says of each name that has a row.
-use Rattle.std.specs.Prelude.{ℕ, Bool, true, false, not, ◌&&◌, ◌||◌, List, [], ◌∷◌, ◌++◌, Option, Some, None, IfSome, IsTrue, IsFalse, ◌≡◌, length, if◌then◌else◌}
+use Rattle.std.specs.Prelude.{ℕ, Bool, true, false, not, ◌&&◌, ◌||◌, List, [], ◌∷◌, Option, Some, None, IfSome, ◌≡◌, length, if◌then◌else◌}
 use Rattle.std.specs.List.{list_all}
 use Rattle.std.specs.Str.{bytes_eq}
 use Rattle.std.proofs.Common.{refl, sym, subst}
 use Rattle.std.proofs.lemmas.Bool.{false≢true}
 use Rattle.std.proofs.lemmas.Slice.Eq.{bytes_eq-Decides}
 use Rattle.api_model.specs.declared.rows.ApiRow.{ApiRow}
-use Rattle.api_model.specs.declared.rows.Fails.{Fails}
-use Rattle.api_model.specs.declared.rows.Fails.TheVariants.{Never}
 use Rattle.api_model.specs.Rows.{Function, row_in, row_of, api_table, made_rows, asked_rows, unasked_rows, sums, shifts, sums_in_place, shifts_in_place, protocols, numbers_and_texts, containers_and_modules, objects, changes, numbers, handlers, counts, errors, locks, reads}
 use Rattle.api_model.specs.RowLaws.{may_have_error, may_lack_lock, are_distinct}
 

@@ -15,7 +15,7 @@
 -- | unraisable                                                          | anything                                       |
 --
 -- Where an operation can fail, `raise` raises its object, and an entry that doesn't fit counts as a raise of Foreign 0.
-use Rattle.std.specs.Prelude.{ℕ, Bool, ◌&&◌, ◌||◌, List, [], ◌∷◌, ℤ, pos, negsuc, ◌+◌, ◌*◌, length, nat_eq, nat_le, nat_lt, nat_abs, int_le, if◌then◌else◌}
+use Rattle.std.specs.Prelude.{ℕ, Bool, ◌&&◌, ◌||◌, List, ◌∷◌, ℤ, pos, negsuc, ◌+◌, ◌*◌, length, nat_eq, nat_le, nat_lt, nat_abs, int_le, if◌then◌else◌}
 use Rattle.std.specs.List.{list_all}
 use Rattle.std.specs.Ordering.{int_eq}
 use Rattle.api_model.specs.declared.object.Obj.{Obj}

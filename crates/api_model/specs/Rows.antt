@@ -1,5 +1,5 @@
 -- The functions of the Python/C API that the written C calls, and what each of them gives, needs and steals (Python/C API manual; the choice is the project's own).
-use Rattle.std.specs.Prelude.{ℕ, Bool, true, false, List, [], ◌∷◌, ◌++◌, Option, Some, None, if◌then◌else◌, codes}
+use Rattle.std.specs.Prelude.{ℕ, true, false, List, [], ◌∷◌, ◌++◌, Option, Some, None, if◌then◌else◌, codes}
 use Rattle.std.specs.Str.{bytes_eq}
 use Prim.Native.String.{String}
 use Rattle.api_model.specs.declared.rows.Gives.{Gives}

@@ -1,4 +1,4 @@
-use Rattle.std.proofs.Common.{◌≡◌, ℕ, nat_le, length, Bool, true, false, List, [], ◌∷◌, ℤ, refl, sym, ◌∙◌, arith, inl, inr}
+use Rattle.std.proofs.Common.{◌≡◌, ℕ, nat_le, length, true, List, [], ◌∷◌, ℤ, refl, sym, ◌∙◌, arith, inl, inr}
 use Rattle.api_model.specs.Answers.{reach}
 use Rattle.api_model.proofs.views.is_within.Goals as goal
 
