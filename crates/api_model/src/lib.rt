@@ -9,6 +9,8 @@ mod laws;
 mod object;
 mod op;
 mod rows;
+#[cfg(test)]
+mod tests;
 mod views;
 
 pub use answers::answer;

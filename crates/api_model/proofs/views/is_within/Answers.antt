@@ -19,6 +19,7 @@ pub returns : goal.returns
 returns c =
     let lengths : List ℤ = c.loop-length.length-iterator.a.rest.now in
     let strides : List ℤ = c.loop-length.length-iterator.b.rest.now in
-    elim c.in-None.ensures.steps
-    [ inl h ↦ sym (c.loop-length.invariant ∙ nothing_fits (reach lengths strides) c.loop-length.left (reach_of_no_lengths lengths strides h.1.0))
-    | inr h ↦ sym (c.loop-length.invariant ∙ nothing_fits (reach lengths strides) c.loop-length.left (reach_of_no_strides lengths strides h.1.0)) ]
+    elim c.in-None.ensures.steps [
+      | inl h ↦ sym (c.loop-length.invariant ∙ nothing_fits (reach lengths strides) c.loop-length.left (reach_of_no_lengths lengths strides h.1.0))
+      | inr h ↦ sym (c.loop-length.invariant ∙ nothing_fits (reach lengths strides) c.loop-length.left (reach_of_no_strides lengths strides h.1.0))
+    ]
