@@ -1,6 +1,7 @@
 use crate::{
     Answer, ApiRow, BinaryOp, Change, ClassName, Entry, Fails, Gives, Info, Make, Obj, Op, answer,
-    entries_need_the_lock, functions_are_distinct, row, rows_are_clean, rows_need_the_lock,
+    answers_are_in_form, entries_need_the_lock, functions_are_distinct, row, rows_are_clean,
+    rows_need_the_lock,
 };
 use c_state::Bytes;
 use cy_base::OutOfMemory;
@@ -300,4 +301,5 @@ fn rows_of_functions(rt: HostRuntime) {
     entries_need_the_lock();
     rows_need_the_lock();
     rows_are_clean();
+    answers_are_in_form();
 }
