@@ -2,7 +2,7 @@
 """Prints how many megabytes of C text are read and printed a second, over a module that is repeated up to 64 MiB.
 
 Run it at the top of the repository, behind `rt run` in crates/read_cases, which builds the program, with the program's path
-if it stands elsewhere. Processor time, the best of three runs each; what a part takes is the difference to the part before.
+if it stands elsewhere. Processor time, the best of five runs each; what a part takes is the difference to the part before.
 """
 import os
 import subprocess
@@ -15,7 +15,7 @@ MEGABYTE = 1 << 20
 
 def seconds(part, copies):
     best = None
-    for _ in range(3):
+    for _ in range(5):
         before = os.times()
         subprocess.run([PROGRAM, part, MODULE, str(copies)], check=True, stdout=subprocess.DEVNULL)
         after = os.times()
