@@ -272,7 +272,15 @@ fn instances_and_views(rt: HostRuntime) -> Result<(), Fail> {
 
 #[test]
 fn objects_are_copied(rt: HostRuntime) -> Result<(), Fail> {
-    assert_eq!(rt; name_of(&Obj::Inst(4).copied(rt.alloc())?), Named::Inst(4));
+    let alloc = rt.alloc();
+    assert_eq!(rt; name_of(&Obj::Inst(4).copied(alloc)?), Named::Inst(4));
+    let class = ClassName {
+        module: text(alloc, b"m")?,
+        class: text(alloc, b"C")?,
+    };
+    let copy = class.copied(alloc)?;
+    assert_eq!(rt; copy.module.as_slice(), b"m".as_slice());
+    assert_eq!(rt; copy.class.as_slice(), b"C".as_slice());
     Ok(())
 }
 
