@@ -83,6 +83,7 @@ fn unfit(fits: Fits) -> Answer
     }
 }
 
+// `ok` with an object.
 fn given(fits: Fits, object: Obj) -> Answer
     ensures { result ≡ given fits object }
 {
@@ -95,6 +96,7 @@ fn given(fits: Fits, object: Obj) -> Answer
     }
 }
 
+// `raise` with an object.
 fn raised(fits: Fits, object: Obj) -> Answer
     ensures { result ≡ raised fits object }
 {
@@ -125,6 +127,7 @@ fn is_bit(number: i128) -> bool
     number == 0 || number == 1
 }
 
+// `num` with a number.
 fn counted(fits: Fits, number: i128) -> Answer
     ensures { result ≡ counted fits number }
 {
@@ -139,6 +142,7 @@ fn counted(fits: Fits, number: i128) -> Answer
     }
 }
 
+// `missing`.
 fn absent(fits: Fits) -> Answer
     ensures { result ≡ absent fits }
 {
@@ -148,6 +152,7 @@ fn absent(fits: Fits) -> Answer
     }
 }
 
+// `made`.
 fn built(fits: Fits, instances: u32) -> Answer
     ensures { result ≡ built fits instances }
 {
@@ -157,6 +162,7 @@ fn built(fits: Fits, instances: u32) -> Answer
     }
 }
 
+// `view`.
 fn viewed(fits: Fits, info: &Info, views: u32) -> Answer
     ensures { result ≡ viewed fits info.now views }
 {

@@ -64,6 +64,7 @@ fn unasked(gives: Gives) -> ApiRow
     }
 }
 
+// A row that may be called with an exception set.
 fn with_error(row: ApiRow) -> ApiRow
     ensures { result ≡ with_error row }
 {
@@ -73,12 +74,14 @@ fn with_error(row: ApiRow) -> ApiRow
     }
 }
 
+// A row that may be called without the lock.
 fn without_lock(row: ApiRow) -> ApiRow
     ensures { result ≡ without_lock row }
 {
     ApiRow { lock: false, ..row }
 }
 
+// A row that takes over a reference to the argument with this number, from 0.
 fn stealing(argument: u32, row: ApiRow) -> ApiRow
     ensures { result ≡ stealing argument row }
 {
@@ -102,6 +105,7 @@ fn done() -> ApiRow
     asked(Gives::Number, Fails::MinusOne)
 }
 
+// The pieces of the table, each with the names of one paragraph, are told apart one behind the other.
 #[tactic(auto, unfolding(crate::specs::Rows::sums))]
 fn sums(name: &[u8]) -> Option<ApiRow>
     ensures { result ≡ row_in sums name.now }
