@@ -105,7 +105,7 @@ fn done() -> ApiRow
     asked(Gives::Number, Fails::MinusOne)
 }
 
-// The pieces of the table, each with the names of one paragraph, are told apart one behind the other.
+// The pieces of the table, in its order, a function each.
 #[tactic(auto, unfolding(crate::specs::Rows::sums))]
 fn sums(name: &[u8]) -> Option<ApiRow>
     ensures { result ≡ row_in sums name.now }

@@ -305,6 +305,10 @@ fn rows_of_functions(rt: HostRuntime) {
     };
     assert_eq!(rt; row(b"PyIter_Next"), Some(next));
     assert_eq!(rt; row(b"PyNumber_Power"), None);
+}
+
+#[test]
+fn laws_are_called() {
     functions_are_distinct();
     entries_need_the_lock();
     rows_need_the_lock();
