@@ -2,12 +2,13 @@
 --
 -- | Operations                                                          | Fit answers                                    |
 -- | binary and in-place, unary, comparisons, getattr, getitem, iter,    | ok: the object                                 |
--- | call, and what makes an object from C values                        |                                                |
--- | view                                                                | a view in form: the next view                  |
+-- | call, and what makes a number, text, tuple, list, dict or module    |                                                |
+-- | view                                                                | a view that fits: the next view                |
 -- | alloc                                                               | made: the next instance                        |
 -- | next, dictget                                                       | ok: the object; missing: nothing is there      |
 -- | dict                                                                | ok: the object; it never fails: else Foreign 0 |
--- | setattr to addobject                                                | any number: 0                                  |
+-- | setattr, delattr, setitem, delitem, dictset, dictdel, ready,        |                                                |
+-- | addobject                                                           | any number: 0                                  |
 -- | aslong, asulong                                                     | a number of I64, of U64                        |
 -- | istrue, contains, isinstance                                        | 0 or 1                                         |
 -- | matches, isclass, native                                            | any number, not 0 is 1; never fails: else 0    |
@@ -81,7 +82,8 @@ reach _ _ = 0
 abbrev pub has_dimensions : ℕ → ℕ → Bool
 has_dimensions lengths strides = nat_eq lengths strides && (nat_le 1 lengths && nat_le lengths 8)
 
--- whether what a buffer says of itself is a view in form
+-- Whether an entry fits that makes a view with this buffer. Its letter belongs to the form of the entry, and is not
+-- asked here.
 abbrev pub is_view : Info → Bool
 is_view i =
     (nat_le i.item 1048576 && has_dimensions (length i.shape) (length i.strides))

@@ -1,4 +1,5 @@
--- The functions of the Python/C API that the written C calls, and what each of them gives, needs and steals (Python/C API manual; the choice is the project's own).
+-- Functions of the Python/C API: what each gives, how it signals failure, what it needs and what it steals. The table is the
+-- project's own, written after the Python/C API manual.
 use Rattle.std.specs.Prelude.{ℕ, true, false, List, [], ◌∷◌, ◌++◌, Option, Some, None, if◌then◌else◌, codes}
 use Rattle.std.specs.Str.{bytes_eq}
 use Prim.Native.String.{String}

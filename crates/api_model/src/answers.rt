@@ -10,7 +10,7 @@ use crate::views::is_view;
 use cy_base::OutOfMemory;
 use std::alloc::Global;
 
-// How an operation may be answered. A `Sure` one never fails.
+// How an operation may be answered. The `Sure` ones, `Thrown` and `Anything` never fail.
 #[derive(Clone, Copy)]
 enum Fits {
     AnObject,

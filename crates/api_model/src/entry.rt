@@ -3,7 +3,7 @@ use crate::info::Info;
 use crate::object::{Allocation, Callee, ClassName, MemberPath, Obj};
 use sqlite_items::Items;
 
-/// One entry of a script.
+/// One entry of a script. `Set` has the instance and then the value; a destroyed instance is named by its number.
 #[derive(Drop)]
 pub enum Entry {
     OkNode(Obj),

@@ -1,7 +1,8 @@
 //! Buffers.
 use sqlite_items::Items;
 
-/// What a taken buffer says of itself (Python/C API manual, "Buffer Protocol"). Strides and items are in bytes.
+/// What a taken buffer says of itself (Python/C API manual, "Buffer Protocol"). Strides and items are in bytes. Without a
+/// letter no format is given, which stands for unsigned bytes; an indirect buffer has suboffsets.
 #[derive(Drop)]
 pub struct Info {
     pub letter: Option<u8>,

@@ -1,4 +1,4 @@
-//! The object space: objects, operations, script entries and their answers, and the rows of the CPython API.
+//! The object space: objects, operations, script entries and their answers, trace lines, and the rows of the CPython API.
 #![tactic(auto)]
 
 mod answers;

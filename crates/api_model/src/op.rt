@@ -66,8 +66,10 @@ pub enum Change {
     AddObject(Obj, Bytes, Obj),
 }
 
-/// An operation that asks the outside for an answer, with the arguments that a trace shows. `Call` has what is
-/// called and its arguments, `Native` the object and the method's name, `Fail` the exception type and the text.
+/// An operation that asks the outside for an answer, with the arguments that a trace shows, save `Unraisable`, of which it
+/// shows None. Arguments stand in the order of C: a container before what is looked for in it, an instance before its
+/// class, the exception before what it is compared with. `IsClass` asks for a class of exceptions. `Call` has what is called
+/// and its arguments, `Native` the object and the method's name, `Fail` the exception type and the text.
 #[derive(Drop)]
 pub enum Op {
     Binary(BinaryOp, Obj, Obj),

@@ -1,4 +1,4 @@
-//! The rows of the Python/C API that the written C calls.
+//! The rows of the functions of the Python/C API. The table is the project's own, written after the manual.
 ghost use Rattle.std.specs.Prelude.{◌≡◌, ℕ, Some};
 ghost use Rattle.api_model.specs.Rows.{asked, unasked, made, done, with_error, without_lock, stealing, row_in, row_of, sums, shifts, sums_in_place, shifts_in_place, protocols, numbers_and_texts, containers_and_modules, objects, changes, numbers, handlers, counts, errors, locks, reads, made_rows, asked_rows, unasked_rows};
 
@@ -23,9 +23,10 @@ pub enum Fails {
     Never,
 }
 
-/// One function of the API: the number of the argument that it steals, from 0, whether the script is asked,
-/// and whether it needs the lock and that no exception is set (Python/C API manual, "Reference Counts",
-/// "Exceptions" and "Thread State and the Global Interpreter Lock").
+/// What one function of the API gives, how it signals failure, the number of the argument that it steals, from 0, whether
+/// the script is asked, and whether it needs the lock and that no exception is set. `PyErr_Occurred` and
+/// `PyErr_GetRaisedException` may give NULL, which is no failure. The project's own, after the Python/C API manual,
+/// "Reference Counts", "Exceptions" and "Thread State and the Global Interpreter Lock".
 #[derive(Clone, Copy, Debug, PartialEq, Eq)]
 pub struct ApiRow {
     pub gives: Gives,
@@ -415,7 +416,8 @@ fn unasked_row(name: &[u8]) -> Option<ApiRow>
     reads(name)
 }
 
-/// The row of the function with this name: none where the written C doesn't call it.
+/// The row of the function with this name, or none where the table lacks it. The check for a function of the set
+/// (`PyCFunction_Check` and what stands behind it) is a form of a statement, and has no row.
 #[tactic(auto, unfolding(crate::specs::Rows::row_of, crate::specs::Rows::api_table), using(crate::proofs::Appended::appended))]
 pub fn row(name: &[u8]) -> Option<ApiRow>
     ensures { result ≡ row_of name.now }

@@ -1,11 +1,11 @@
-//! Which buffers are views in form.
+//! Which entries of views fit.
 ghost use Rattle.std.specs.Prelude.{◌≡◌, ℕ, nat_le, length};
 ghost use Rattle.std.specs.List.{list_all};
 ghost use Rattle.api_model.specs.Answers.{has_dimensions, is_length, is_stride, is_view, reach};
 
 use crate::info::Info;
 
-// The most bytes that a view spans.
+// The greatest length, stride, and sum of both over the dimensions.
 const SPAN: i64 = 1_152_921_504_606_846_976;
 
 // The most bytes of an item.
@@ -55,7 +55,7 @@ fn is_within(lengths: &[i64], strides: &[i64]) -> bool
     true
 }
 
-// Whether what a buffer says of itself is a view in form.
+// Whether an entry fits that makes a view with this buffer. Of its letter nothing is asked.
 pub(crate) fn is_view(info: &Info) -> bool
     ensures { result ≡ is_view info.now }
 {
