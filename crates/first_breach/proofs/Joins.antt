@@ -39,7 +39,7 @@ least-same (Some r) xs ys same it = record {
   first = λ other h before. it.first other (same.back other h) before;
 }
 
-same-behind : (before xs ys : List Refusal) → AreSame xs ys → AreSame (before ++ xs) (before ++ ys)
+pub same-behind : (before xs ys : List Refusal) → AreSame xs ys → AreSame (before ++ xs) (before ++ ys)
 same-behind before xs ys same = record {
   there = λ r h. ⊎_elim (λ (i : IsOneOf r before). one-left before ys r i) (λ (i : IsOneOf r xs). one-right before ys r (same.there r i)) (one-split before xs r h);
   back = λ r h. ⊎_elim (λ (i : IsOneOf r before). one-left before xs r i) (λ (i : IsOneOf r ys). one-right before xs r (same.back r i)) (one-split before ys r h);
@@ -79,3 +79,19 @@ one-first rs a b x y phase =
     let offset : a.offset ≡ b.offset = neither a.offset b.offset (λ h. not (inr (file, inl h))) (λ h. nor (inr (sym file, inl h))) in
     let number : a.rule.number ≡ b.rule.number = neither a.rule.number b.rule.number (λ h. not (inr (file, inr (offset, h)))) (λ h. nor (inr (sym file, inr (sym offset, h)))) in
     same-parts a b phase number file offset
+
+-- ---- order
+
+pub same-then : (xs ys zs : List Refusal) → AreSame xs ys → AreSame ys zs → AreSame xs zs
+same-then xs ys zs first then = record { there = λ r h. then.there r (first.there r h); back = λ r h. first.back r (then.back r h) }
+
+swap-there : (a x b y : List Refusal) (r : Refusal) → IsOneOf r ((a ++ x) ++ (b ++ y)) → IsOneOf r ((a ++ b) ++ (x ++ y))
+swap-there a x b y r h =
+    ⊎_elim
+      (λ (i : IsOneOf r (a ++ x)). ⊎_elim (λ (k : IsOneOf r a). one-left (a ++ b) (x ++ y) r (one-left a b r k)) (λ (k : IsOneOf r x). one-right (a ++ b) (x ++ y) r (one-left x y r k)) (one-split a x r i))
+      (λ (i : IsOneOf r (b ++ y)). ⊎_elim (λ (k : IsOneOf r b). one-left (a ++ b) (x ++ y) r (one-right a b r k)) (λ (k : IsOneOf r y). one-right (a ++ b) (x ++ y) r (one-right x y r k)) (one-split b y r i))
+      (one-split (a ++ x) (b ++ y) r h)
+
+-- two lists in two parts each, part by part
+pub swapped : (a x b y : List Refusal) → AreSame ((a ++ x) ++ (b ++ y)) ((a ++ b) ++ (x ++ y))
+swapped a x b y = record { there = swap-there a x b y; back = swap-there a b x y }
