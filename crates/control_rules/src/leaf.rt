@@ -62,6 +62,21 @@ fn judge_simple(
     }
 }
 
+fn judge_simples(
+    file: FileId,
+    around: Around,
+    simples: &[Simple],
+    least: Option<Refusal>,
+) -> Option<Refusal>
+    ensures { SimplesNoted file around simples.now least result }
+{
+    let mut least = least;
+    for simple in simples {
+        least = judge_simple(file, around, simple, least);
+    }
+    least
+}
+
 pub(crate) fn judge_line(
     file: FileId,
     around: Around,
@@ -70,11 +85,7 @@ pub(crate) fn judge_line(
 ) -> Option<Refusal>
     ensures { SimplesNoted file around line.now.simples least result }
 {
-    let mut least = least;
-    for simple in line.simples.as_slice() {
-        least = judge_simple(file, around, simple, least);
-    }
-    least
+    judge_simples(file, around, line.simples.as_slice(), least)
 }
 
 /// A bare `except`, which is to be the last handler.
