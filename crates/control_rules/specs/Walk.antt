@@ -15,6 +15,23 @@ use Rattle.first_breach.specs.First.{IsLeastWith}
 use Rattle.control_rules.specs.declared.around.Around.{Around}
 use Rattle.control_rules.specs.Rules.{Inside, in_each, in_maybe, on_line, outside_loop, outside_function, outside_handler, inside_compound, all_of, maybe_of, of_handlers, in_member, in_top, loop_stmt, loop_suite, loop_arm, loop_handler, return_stmt, return_suite, return_arm, return_handler, raise_stmt, raise_suite, raise_arm, raise_handler, cdef_stmt, cdef_suite, cdef_arm, cdef_handler, bare_stmt, bare_suite, bare_arm, bare_handler}
 
+-- what is around the statements of a module, and those of a function
+abbrev pub in_module : Around
+in_module = record { in_loop = false; in_function = false; in_handler = false; in_compound = false }
+
+abbrev pub in_body : Around
+in_body = record { in_loop = false; in_function = true; in_handler = false; in_compound = false }
+
+-- what is around the parts of a compound statement, the first suite of a loop, and the suite of a handler
+abbrev pub compound : Around → Around
+compound around = record around { in_compound = true }
+
+abbrev pub looping : Around → Around
+looping around = record around { in_loop = true; in_compound = true }
+
+abbrev pub handling : Around → Around
+handling around = record around { in_handler = true }
+
 -- from the least of any broken rules to the least of these and of five lists more
 pub record IsNoted (least : Option Refusal) (a b c d e : List Refusal) (result : Option Refusal) : Type 0 where
   pub whole : IsLeastWith least (a ++ (b ++ (c ++ (d ++ e)))) result
@@ -98,13 +115,6 @@ HandlersNoted file around hs least result =
       (in_each (map (cdef_handler file) hs) around.in_compound)
       (of_handlers (map (bare_handler file) hs))
       result
-
--- what is around the statements of a module, and those of a function
-abbrev pub in_module : Around
-in_module = record { in_loop = false; in_function = false; in_handler = false; in_compound = false }
-
-abbrev pub in_body : Around
-in_body = record { in_loop = false; in_function = true; in_handler = false; in_compound = false }
 
 abbrev pub MemberNoted : ℕ → Member → Option Refusal → Option Refusal → Type 0
 MemberNoted file m least result =

@@ -1,5 +1,5 @@
-ghost use Rattle.std.specs.Prelude.{◌≡◌, true};
-ghost use Rattle.control_rules.specs.Walk.{in_body, in_module};
+ghost use Rattle.std.specs.Prelude.{◌≡◌};
+ghost use Rattle.control_rules.specs.Walk.{compound, handling, in_body, in_module, looping};
 
 /// What is around a statement. The project's own.
 #[derive(Clone, Copy)]
@@ -35,7 +35,7 @@ impl Around {
 
     /// Inside a compound statement.
     pub fn compound(self) -> Around
-        ensures { result ≡ record self { in_compound = true } }
+        ensures { result ≡ compound self }
     {
         Around {
             in_compound: true,
@@ -45,7 +45,7 @@ impl Around {
 
     /// In the first suite of a loop.
     pub fn looping(self) -> Around
-        ensures { result ≡ record self { in_loop = true; in_compound = true } }
+        ensures { result ≡ looping self }
     {
         Around {
             in_loop: true,
@@ -56,7 +56,7 @@ impl Around {
 
     /// In the suite of a handler.
     pub fn handling(self) -> Around
-        ensures { result ≡ record self { in_handler = true } }
+        ensures { result ≡ handling self }
     {
         Around {
             in_handler: true,

@@ -57,11 +57,10 @@ fn judge_handlers(file: FileId, around: Around, handlers: &[Handler], least: Lea
     ensures { HandlersNoted file around handlers.now least result }
 {
     let mut least = least;
-    let mut left = handlers;
-    while let Some((handler, more)) = left.split_first() {
-        least = judge_handler(file, more.is_empty(), handler, least);
+    for (index, handler) in handlers.iter().enumerate() {
+        let is_last = index + 1 == handlers.len();
+        least = judge_handler(file, is_last, handler, least);
         least = judge_suite(file, around.handling(), handler.body.get(), least);
-        left = more;
     }
     least
 }
@@ -78,7 +77,11 @@ pub(crate) fn judge_stmt(file: FileId, around: Around, stmt: &Stmt, least: Least
             let least = judge_arms(file, inner, arms.as_slice(), least);
             judge_maybe(file, inner, other, least)
         }
-        Stmt::WhileNode(_, _, body, other) | Stmt::ForNode(_, _, _, body, other) => {
+        Stmt::WhileNode(_, _, body, other) => {
+            let least = judge_suite(file, around.looping(), body.get(), least);
+            judge_maybe(file, inner, other, least)
+        }
+        Stmt::ForNode(_, _, _, body, other) => {
             let least = judge_suite(file, around.looping(), body.get(), least);
             judge_maybe(file, inner, other, least)
         }

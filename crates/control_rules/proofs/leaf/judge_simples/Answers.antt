@@ -15,4 +15,4 @@ loop-simple-preserved c = λ last it.
 pub returns : goal.returns
 returns c =
     c.loop-simple.invariant c.loop-simple.least
-    (ended (λ ss. SimplesNoted c.args.file c.args.around ss c.loop-simple.least c.loop-simple.least) c.args.simples.now c.loop-simple.simple-index c.loop-simple-test.false c.loop-simple.auto.simple-index-end none)
+    (ended (λ ss. SimplesNoted c.args.file c.args.around ss c.loop-simple.least c.loop-simple.least) c.args.simples.now c.loop-simple.simple-index c.loop-simple-test.false none)
