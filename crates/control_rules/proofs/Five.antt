@@ -1,5 +1,5 @@
 -- Five lists at once: none, one alone, and two rows of five.
-use Rattle.std.proofs.Common.{◌≡◌, List, [], ◌++◌, Option, refl, subst, sym, ap, ◌∙◌}
+use Rattle.std.proofs.Common.{◌≡◌, List, [], ◌++◌, Option, subst, sym}
 use Rattle.std.proofs.lemmas.List.{append-nil}
 use Rattle.cy_base.specs.declared.place.Refusal.{Refusal}
 use Rattle.first_breach.specs.First.{IsLeastWith}

@@ -7,7 +7,7 @@ use Rattle.cy_tree.specs.declared.stmt.LockWord.{LockWord}
 use Rattle.cy_tree.specs.declared.stmt.Stmt.{Stmt, Stmt-F, roll-Stmt, fold-roll-Stmt}
 use Rattle.cy_tree.specs.declared.stmt.Stmt.TheVariants as stmt
 use Rattle.cy_tree.specs.declared.stmt.Suite.TheVariants as suite
-use Rattle.cy_tree.specs.declared.stmt.Stmt.TheOpen.{Suite-F, Arm-F, Handler-F}
+use Rattle.cy_tree.specs.declared.stmt.Stmt.TheOpen.{Suite-F}
 use Rattle.cy_tree.specs.declared.stmt.Stmt.TheFolds.{map-Stmt, map-Suite}
 use Rattle.cy_tree.specs.declared.stmt.Suite.{Suite, roll-Suite, fold-roll-Suite}
 use Rattle.cy_tree.specs.declared.stmt.Arm.{Arm, fold_out-Arm}
@@ -20,12 +20,12 @@ use Rattle.control_rules.proofs.Five.{both, equal}
 abbrev pub StmtLevelNoted : ℕ → Around → Stmt-F Stmt Suite Arm Handler → Option Refusal → Option Refusal → Type 0
 StmtLevelNoted file around l least result =
     IsNoted least
-      ((loop_step file) (map-Stmt Stmt Suite Arm Handler Inside Inside Inside Inside (loop_stmt file) (loop_suite file) (loop_arm file) (loop_handler file) l) around.in_loop)
-      ((stmt_step (outside_function file)) (map-Stmt Stmt Suite Arm Handler Inside Inside Inside Inside (return_stmt file) (return_suite file) (return_arm file) (return_handler file) l) around.in_function)
-      ((stmt_step (outside_handler file)) (map-Stmt Stmt Suite Arm Handler Inside Inside Inside Inside (raise_stmt file) (raise_suite file) (raise_arm file) (raise_handler file) l) around.in_handler)
-      ((cdef_step file) (map-Stmt Stmt Suite Arm Handler Inside Inside Inside Inside (cdef_stmt file) (cdef_suite file) (cdef_arm file) (cdef_handler file) l) around.in_compound)
-      (bare_stmt_step (map-Stmt Stmt Suite Arm Handler (List Refusal) (List Refusal) (List Refusal) Inside (bare_stmt file) (bare_suite file) (bare_arm file) (bare_handler file) l))
-      result
+    ((loop_step file) (map-Stmt Stmt Suite Arm Handler Inside Inside Inside Inside (loop_stmt file) (loop_suite file) (loop_arm file) (loop_handler file) l) around.in_loop)
+    ((stmt_step (outside_function file)) (map-Stmt Stmt Suite Arm Handler Inside Inside Inside Inside (return_stmt file) (return_suite file) (return_arm file) (return_handler file) l) around.in_function)
+    ((stmt_step (outside_handler file)) (map-Stmt Stmt Suite Arm Handler Inside Inside Inside Inside (raise_stmt file) (raise_suite file) (raise_arm file) (raise_handler file) l) around.in_handler)
+    ((cdef_step file) (map-Stmt Stmt Suite Arm Handler Inside Inside Inside Inside (cdef_stmt file) (cdef_suite file) (cdef_arm file) (cdef_handler file) l) around.in_compound)
+    (bare_stmt_step (map-Stmt Stmt Suite Arm Handler (List Refusal) (List Refusal) (List Refusal) Inside (bare_stmt file) (bare_suite file) (bare_arm file) (bare_handler file) l))
+    result
 
 stmt-out : (file : ℕ) (around : Around) (l : Stmt-F Stmt Suite Arm Handler) (least result : Option Refusal) → StmtLevelNoted file around l least result → StmtNoted file around (roll-Stmt l) least result
 stmt-out file around l least result it = equal
@@ -42,12 +42,12 @@ stmt-at file around x l e {least} {result} it = subst (λ (y : Stmt). StmtNoted 
 abbrev pub SuiteLevelNoted : ℕ → Around → Suite-F Stmt Suite Arm Handler → Option Refusal → Option Refusal → Type 0
 SuiteLevelNoted file around l least result =
     IsNoted least
-      ((suite_step (outside_loop file)) (map-Suite Stmt Suite Arm Handler Inside Inside Inside Inside (loop_stmt file) (loop_suite file) (loop_arm file) (loop_handler file) l) around.in_loop)
-      ((suite_step (outside_function file)) (map-Suite Stmt Suite Arm Handler Inside Inside Inside Inside (return_stmt file) (return_suite file) (return_arm file) (return_handler file) l) around.in_function)
-      ((suite_step (outside_handler file)) (map-Suite Stmt Suite Arm Handler Inside Inside Inside Inside (raise_stmt file) (raise_suite file) (raise_arm file) (raise_handler file) l) around.in_handler)
-      ((suite_step (inside_compound file)) (map-Suite Stmt Suite Arm Handler Inside Inside Inside Inside (cdef_stmt file) (cdef_suite file) (cdef_arm file) (cdef_handler file) l) around.in_compound)
-      (bare_suite_step (map-Suite Stmt Suite Arm Handler (List Refusal) (List Refusal) (List Refusal) Inside (bare_stmt file) (bare_suite file) (bare_arm file) (bare_handler file) l))
-      result
+    ((suite_step (outside_loop file)) (map-Suite Stmt Suite Arm Handler Inside Inside Inside Inside (loop_stmt file) (loop_suite file) (loop_arm file) (loop_handler file) l) around.in_loop)
+    ((suite_step (outside_function file)) (map-Suite Stmt Suite Arm Handler Inside Inside Inside Inside (return_stmt file) (return_suite file) (return_arm file) (return_handler file) l) around.in_function)
+    ((suite_step (outside_handler file)) (map-Suite Stmt Suite Arm Handler Inside Inside Inside Inside (raise_stmt file) (raise_suite file) (raise_arm file) (raise_handler file) l) around.in_handler)
+    ((suite_step (inside_compound file)) (map-Suite Stmt Suite Arm Handler Inside Inside Inside Inside (cdef_stmt file) (cdef_suite file) (cdef_arm file) (cdef_handler file) l) around.in_compound)
+    (bare_suite_step (map-Suite Stmt Suite Arm Handler (List Refusal) (List Refusal) (List Refusal) Inside (bare_stmt file) (bare_suite file) (bare_arm file) (bare_handler file) l))
+    result
 
 suite-out : (file : ℕ) (around : Around) (l : Suite-F Stmt Suite Arm Handler) (least result : Option Refusal) → SuiteLevelNoted file around l least result → SuiteNoted file around (roll-Suite l) least result
 suite-out file around l least result it = equal
@@ -60,7 +60,6 @@ suite-out file around l least result it = equal
 
 pub suite-at : (file : ℕ) (around : Around) (x : Suite) (l : Suite-F Stmt Suite Arm Handler) → x ≡ roll-Suite l → {least result : Option Refusal} → SuiteLevelNoted file around l least result → SuiteNoted file around x least result
 suite-at file around x l e {least} {result} it = subst (λ (y : Suite). SuiteNoted file around y least result) (sym e) (suite-out file around l least result it)
-
 
 -- ---- arms and handlers
 

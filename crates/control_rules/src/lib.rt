@@ -4,6 +4,8 @@
 mod around;
 mod file;
 mod leaf;
+#[cfg(test)]
+mod tests;
 mod walk;
 
 pub use file::control;
