@@ -1,0 +1,3 @@
+pub mod Five
+pub mod Levels
+pub mod Loops

@@ -1,0 +1,9 @@
+//! The rules on parameters alone: their defaults, and the first one of a method.
+#![tactic(auto)]
+
+mod file;
+mod function;
+mod param;
+mod place;
+
+pub use file::signature;
