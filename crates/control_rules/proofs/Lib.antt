@@ -1,3 +1,2 @@
 pub mod Five
 pub mod Levels
-pub mod Loops

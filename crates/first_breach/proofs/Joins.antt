@@ -88,9 +88,9 @@ same-then xs ys zs first then = record { there = λ r h. then.there r (first.the
 swap-there : (a x b y : List Refusal) (r : Refusal) → IsOneOf r ((a ++ x) ++ (b ++ y)) → IsOneOf r ((a ++ b) ++ (x ++ y))
 swap-there a x b y r h =
     ⊎_elim
-      (λ (i : IsOneOf r (a ++ x)). ⊎_elim (λ (k : IsOneOf r a). one-left (a ++ b) (x ++ y) r (one-left a b r k)) (λ (k : IsOneOf r x). one-right (a ++ b) (x ++ y) r (one-left x y r k)) (one-split a x r i))
-      (λ (i : IsOneOf r (b ++ y)). ⊎_elim (λ (k : IsOneOf r b). one-left (a ++ b) (x ++ y) r (one-right a b r k)) (λ (k : IsOneOf r y). one-right (a ++ b) (x ++ y) r (one-right x y r k)) (one-split b y r i))
-      (one-split (a ++ x) (b ++ y) r h)
+    (λ (i : IsOneOf r (a ++ x)). ⊎_elim (λ (k : IsOneOf r a). one-left (a ++ b) (x ++ y) r (one-left a b r k)) (λ (k : IsOneOf r x). one-right (a ++ b) (x ++ y) r (one-left x y r k)) (one-split a x r i))
+    (λ (i : IsOneOf r (b ++ y)). ⊎_elim (λ (k : IsOneOf r b). one-left (a ++ b) (x ++ y) r (one-right a b r k)) (λ (k : IsOneOf r y). one-right (a ++ b) (x ++ y) r (one-right x y r k)) (one-split b y r i))
+    (one-split (a ++ x) (b ++ y) r h)
 
 -- two lists in two parts each, part by part
 pub swapped : (a x b y : List Refusal) → AreSame ((a ++ x) ++ (b ++ y)) ((a ++ b) ++ (x ++ y))

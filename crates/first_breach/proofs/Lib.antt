@@ -1,2 +1,3 @@
-pub mod OneMore
 pub mod Joins
+pub mod Loops
+pub mod OneMore

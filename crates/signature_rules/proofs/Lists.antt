@@ -1,11 +1,11 @@
 -- Rules over a list of functions: function by function, and rule by rule.
-use Rattle.std.proofs.Common.{◌≡◌, ℕ, false, List, [], ◌∷◌, ◌++◌, Option, sym, subst}
+use Rattle.std.proofs.Common.{ℕ, false, List, [], ◌∷◌, ◌++◌, Option, sym, subst}
 use Rattle.std.specs.List.{flat_map}
 use Rattle.std.proofs.lemmas.Grind.{flat_map-append}
 use Rattle.cy_base.specs.declared.place.Refusal.{Refusal}
-use Rattle.first_breach.specs.First.{IsLeast, IsLeastWith}
+use Rattle.first_breach.specs.First.{IsLeastWith}
 use Rattle.first_breach.proofs.Joins.{AreSame, same-behind, same-then, swapped, with-both, with-same}
-use Rattle.signature_rules.specs.Rules.{Signature, signatures, signature_breaches, defaults_breaches, c_defaults_breaches, first_breaches}
+use Rattle.signature_rules.specs.Rules.{Signature, defaults_breaches, c_defaults_breaches, first_breaches}
 use Rattle.signature_rules.specs.Walk.{breaches_of, all_breaches}
 
 -- those of one list and then of another

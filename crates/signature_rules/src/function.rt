@@ -31,12 +31,7 @@ pub(crate) fn judge_def(file: FileId, is_method: bool, def: &Def, least: Least) 
     judge_signature(file, def.at, false, is_method, def.params.as_slice(), least)
 }
 
-pub(crate) fn judge_heading(
-    file: FileId,
-    is_method: bool,
-    heading: &Heading,
-    least: Least,
-) -> Least
+pub(crate) fn judge_heading(file: FileId, is_method: bool, heading: &Heading, least: Least) -> Least
     ensures { IsLeastWith least (breaches_of file (heading_signature is_method heading.now)) result }
 {
     let params = heading.header.params.as_slice();

@@ -5,5 +5,7 @@ mod file;
 mod function;
 mod param;
 mod place;
+#[cfg(test)]
+mod tests;
 
 pub use file::signature;

@@ -1,6 +1,6 @@
 use Rattle.control_rules.specs.Walk.{MembersNoted}
 use Rattle.control_rules.proofs.Five.{both, none}
-use Rattle.control_rules.proofs.Loops.{ended, next}
+use Rattle.first_breach.proofs.Loops.{ended, next}
 use Rattle.control_rules.proofs.file.judge_members.Goals as goal
 
 pub loop-member-preserved : goal.loop-member-preserved

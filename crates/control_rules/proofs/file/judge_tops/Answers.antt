@@ -1,6 +1,6 @@
 use Rattle.control_rules.specs.Walk.{TopsNoted}
 use Rattle.control_rules.proofs.Five.{both, none}
-use Rattle.control_rules.proofs.Loops.{ended, next}
+use Rattle.first_breach.proofs.Loops.{ended, next}
 use Rattle.control_rules.proofs.file.judge_tops.Goals as goal
 
 pub loop-top-preserved : goal.loop-top-preserved

@@ -1,6 +1,6 @@
 use Rattle.control_rules.specs.Walk.{SimplesNoted}
 use Rattle.control_rules.proofs.Five.{both, none}
-use Rattle.control_rules.proofs.Loops.{ended, next}
+use Rattle.first_breach.proofs.Loops.{ended, next}
 use Rattle.control_rules.proofs.leaf.judge_simples.Goals as goal
 
 pub loop-simple-init : goal.loop-simple-init

@@ -3,7 +3,7 @@ use Rattle.control_rules.specs.Rules.{bare_handler}
 use Rattle.control_rules.specs.Walk.{ArmsNoted, HandlersNoted, StmtsNoted}
 use Rattle.control_rules.proofs.Five.{both, none}
 use Rattle.control_rules.proofs.Levels.{HandlerNoted, arm-noted, block-noted, for-noted, handler-noted, if-noted, inline-noted, last-is, simples-noted, try-noted, while-noted, with-noted}
-use Rattle.control_rules.proofs.Loops.{ended, next}
+use Rattle.first_breach.proofs.Loops.{ended, next}
 use Rattle.control_rules.proofs.walk.+walk.Goals as goal
 
 pub judge_arms-loop-arm-preserved : goal.judge_arms-loop-arm-preserved

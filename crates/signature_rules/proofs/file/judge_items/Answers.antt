@@ -5,7 +5,7 @@ use Rattle.first_breach.proofs.Joins.{with-none}
 use Rattle.signature_rules.specs.Rules.{in_item}
 use Rattle.signature_rules.specs.Walk.{all_breaches}
 use Rattle.signature_rules.proofs.Lists.{more-noted}
-use Rattle.signature_rules.proofs.Loops.{ended, next}
+use Rattle.first_breach.proofs.Loops.{ended, next}
 use Rattle.signature_rules.proofs.file.judge_items.Goals as goal
 
 pub loop-item-preserved : goal.loop-item-preserved

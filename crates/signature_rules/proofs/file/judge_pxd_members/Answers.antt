@@ -5,7 +5,7 @@ use Rattle.first_breach.proofs.Joins.{with-none}
 use Rattle.signature_rules.specs.Rules.{in_pxd_member}
 use Rattle.signature_rules.specs.Walk.{all_breaches}
 use Rattle.signature_rules.proofs.Lists.{more-noted}
-use Rattle.signature_rules.proofs.Loops.{ended, next}
+use Rattle.first_breach.proofs.Loops.{ended, next}
 use Rattle.signature_rules.proofs.file.judge_pxd_members.Goals as goal
 
 pub loop-member-preserved : goal.loop-member-preserved

@@ -5,7 +5,7 @@ use Rattle.first_breach.proofs.Joins.{with-none}
 use Rattle.signature_rules.specs.Rules.{in_top}
 use Rattle.signature_rules.specs.Walk.{all_breaches}
 use Rattle.signature_rules.proofs.Lists.{more-noted}
-use Rattle.signature_rules.proofs.Loops.{ended, next}
+use Rattle.first_breach.proofs.Loops.{ended, next}
 use Rattle.signature_rules.proofs.file.judge_tops.Goals as goal
 
 pub loop-top-preserved : goal.loop-top-preserved

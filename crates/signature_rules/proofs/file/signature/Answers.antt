@@ -1,4 +1,3 @@
-use Rattle.cy_tree.specs.declared.content.Content.{Content}
 use Rattle.signature_rules.specs.Rules.{signatures}
 use Rattle.signature_rules.proofs.Lists.{rule-by-rule}
 use Rattle.signature_rules.proofs.file.signature.Goals as goal

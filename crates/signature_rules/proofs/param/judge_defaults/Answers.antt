@@ -1,9 +1,8 @@
-use Rattle.std.proofs.Common.{◌+◌, drop, Bool, List, Option, subst, sym}
-use Rattle.cy_base.specs.declared.place.Refusal.{Refusal}
+use Rattle.std.proofs.Common.{◌+◌, drop, Bool, subst}
 use Rattle.first_breach.specs.First.{IsLeastWith}
 use Rattle.first_breach.proofs.Joins.{with-both, with-none}
 use Rattle.signature_rules.specs.Rules.{behind, default_breaches, defaults_breaches}
-use Rattle.signature_rules.proofs.Loops.{ended, next}
+use Rattle.first_breach.proofs.Loops.{ended, next}
 use Rattle.signature_rules.proofs.param.judge_defaults.Goals as goal
 
 pub loop-param-preserved : goal.loop-param-preserved
@@ -14,7 +13,7 @@ loop-param-preserved c = λ last it.
     let rest = drop (c.loop-param.param-index + 1) c.args.params.now in
     let after = behind c.loop-param.is_behind p.default in
     let then : IsLeastWith c.judge_default-least.result (defaults_breaches file after rest) last =
-        subst (λ (b : Bool). IsLeastWith c.judge_default-least.result (defaults_breaches file b rest) last) c.is_behind_next-is_behind.ensures it in
+    subst (λ (b : Bool). IsLeastWith c.judge_default-least.result (defaults_breaches file b rest) last) c.is_behind_next-is_behind.ensures it in
     c.loop-param.invariant last
     (next (λ ps. IsLeastWith least (defaults_breaches file c.loop-param.is_behind ps) last) c.args.params.now c.loop-param.param-index p c.loop-param-test.true c.param-item.is
     (with-both least c.judge_default-least.result last (default_breaches file c.loop-param.is_behind p p.default) (defaults_breaches file after rest) c.judge_default-least.ensures then))

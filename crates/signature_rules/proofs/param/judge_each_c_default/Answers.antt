@@ -3,7 +3,7 @@ use Rattle.std.specs.List.{flat_map}
 use Rattle.first_breach.specs.First.{IsLeastWith}
 use Rattle.first_breach.proofs.Joins.{with-both, with-none}
 use Rattle.signature_rules.specs.Rules.{default_place}
-use Rattle.signature_rules.proofs.Loops.{ended, next}
+use Rattle.first_breach.proofs.Loops.{ended, next}
 use Rattle.signature_rules.proofs.param.judge_each_c_default.Goals as goal
 
 pub loop-param-preserved : goal.loop-param-preserved
