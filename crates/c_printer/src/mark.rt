@@ -106,6 +106,49 @@ pub(crate) fn colon(out: Writer) -> Put
     out.text(b":")
 }
 
+#[tactic(auto, unfolding(c_state::specs::CTokens::c_tokens, c_state::specs::CTokens::tokens_from))]
+pub(crate) fn member_end(out: Writer) -> Put
+    ensures { IfOk result (λ new. new ≡ out ++ sign ";" ∷ []) }
+{
+    out.text(b"; ")
+}
+
+#[tactic(auto, unfolding(c_state::specs::CTokens::c_tokens, c_state::specs::CTokens::tokens_from))]
+pub(crate) fn open_apart(out: Writer) -> Put
+    ensures { IfOk result (λ new. new ≡ out ++ sign "{" ∷ []) }
+{
+    out.text(b" { ")
+}
+
+#[tactic(auto, unfolding(c_state::specs::CTokens::c_tokens, c_state::specs::CTokens::tokens_from))]
+pub(crate) fn open_inner(out: Writer) -> Put
+    ensures { IfOk result (λ new. new ≡ out ++ sign "{" ∷ []) }
+{
+    out.text(b"{ ")
+}
+
+#[tactic(auto, unfolding(c_state::specs::CTokens::c_tokens, c_state::specs::CTokens::tokens_from))]
+pub(crate) fn close_inner(out: Writer) -> Put
+    ensures { IfOk result (λ new. new ≡ out ++ sign "}" ∷ []) }
+{
+    out.text(b" }")
+}
+
+#[tactic(auto, unfolding(c_state::specs::CTokens::c_tokens, c_state::specs::CTokens::tokens_from))]
+pub(crate) fn ends_here(out: Writer) -> Put
+    ensures { IfOk result (λ new. new ≡ out ++ text "};") }
+{
+    out.text(b" };")
+}
+
+/// A comma, and a line further in.
+#[tactic(auto, unfolding(c_state::specs::CTokens::c_tokens, c_state::specs::CTokens::tokens_from))]
+pub(crate) fn comma_line(out: Writer) -> Put
+    ensures { IfOk result (λ new. new ≡ out ++ sign "," ∷ []) }
+{
+    out.text(b",\n    ")
+}
+
 /// Begins a line, which belongs to no token.
 pub(crate) fn line(out: Writer) -> Put
     ensures { IfOk result (λ new. new ≡ out ++ []) }

@@ -7,7 +7,7 @@ ghost use Rattle.c_tree.specs.Forms.{IsCallee, IsStatement};
 ghost use Rattle.c_tree.specs.Statements.{arguments, assigned, between, buffer_of, callee_name, element, extent_of, field, given, method_of, number_spelling, statement_spelling, stored, table_of, test_spelling, view};
 ghost use Rattle.c_printer.specs.Before.{before};
 
-use crate::mark::{Put, ampersand, close, equals, open, semicolon, tilde};
+use crate::mark::{Put, ampersand, blank, close, equals, open, semicolon, tilde};
 use crate::name::{numbered, variable};
 use crate::place::{
     all_arguments, buffer, called, condition, element_place, extent, field_place, method,
@@ -155,12 +155,18 @@ fn goto(out: Writer, t: CTest, label: u32) -> Put
     semicolon(out.lettered(b"L", label)?)
 }
 
+fn return_word(out: Writer) -> Put
+    ensures { IfOk result (λ new. new ≡ out ++ word "return" ∷ []) }
+{
+    blank(out.word(b"return", b"")?)
+}
+
 fn given_back(out: Writer, k: Option<CValue>) -> Put
     ensures { IfOk result (λ new. new ≡ out ++ statement_spelling (CStmt.Return k)) }
 {
     match k {
         None => out.text(b"return;"),
-        Some(k) => semicolon(value(out.word(b"return", b"")?, k)?),
+        Some(k) => semicolon(value(return_word(out)?, k)?),
     }
 }
 

@@ -6,7 +6,9 @@ ghost use Rattle.c_tree.specs.Values.{string};
 ghost use Rattle.c_tree.specs.Items.{member, members, static_or, type_members};
 ghost use Rattle.c_printer.specs.Members.{first_three, later};
 
-use crate::mark::{Put, comma, ends, equals, gives, indent, open_brace, points};
+use crate::mark::{
+    Put, comma, comma_line, ends, ends_here, equals, gives, indent, open_inner, points,
+};
 use crate::name::numbered;
 use crate::tables::static_word;
 use c_tree::{Numbered, TypeObject};
@@ -23,7 +25,7 @@ fn base_if_any(out: Writer, it: Option<Numbered>) -> Put
 {
     match it {
         None => Ok(out),
-        Some(n) => base_member(indent(comma(out)?)?, n),
+        Some(n) => base_member(comma_line(out)?, n),
     }
 }
 
@@ -38,7 +40,7 @@ fn new_if_any(out: Writer, it: Option<Numbered>) -> Put
 {
     match it {
         None => Ok(out),
-        Some(n) => new_member(indent(comma(out)?)?, n),
+        Some(n) => new_member(comma_line(out)?, n),
     }
 }
 
@@ -53,7 +55,7 @@ fn init_if_any(out: Writer, it: Option<Numbered>) -> Put
 {
     match it {
         None => Ok(out),
-        Some(n) => init_member(indent(comma(out)?)?, n),
+        Some(n) => init_member(comma_line(out)?, n),
     }
 }
 
@@ -68,7 +70,7 @@ fn dealloc_if_any(out: Writer, it: Option<Numbered>) -> Put
 {
     match it {
         None => Ok(out),
-        Some(n) => dealloc_member(indent(comma(out)?)?, n),
+        Some(n) => dealloc_member(comma_line(out)?, n),
     }
 }
 
@@ -83,7 +85,7 @@ fn methods_if_any(out: Writer, it: Option<Numbered>) -> Put
 {
     match it {
         None => Ok(out),
-        Some(n) => methods_member(indent(comma(out)?)?, n),
+        Some(n) => methods_member(comma_line(out)?, n),
     }
 }
 
@@ -98,7 +100,7 @@ fn properties_if_any(out: Writer, it: Option<Numbered>) -> Put
 {
     match it {
         None => Ok(out),
-        Some(n) => properties_member(indent(comma(out)?)?, n),
+        Some(n) => properties_member(comma_line(out)?, n),
     }
 }
 
@@ -113,7 +115,7 @@ fn sequence_if_any(out: Writer, it: Option<Numbered>) -> Put
 {
     match it {
         None => Ok(out),
-        Some(n) => sequence_member(indent(comma(out)?)?, n),
+        Some(n) => sequence_member(comma_line(out)?, n),
     }
 }
 
@@ -128,7 +130,7 @@ fn mapping_if_any(out: Writer, it: Option<Numbered>) -> Put
 {
     match it {
         None => Ok(out),
-        Some(n) => mapping_member(indent(comma(out)?)?, n),
+        Some(n) => mapping_member(comma_line(out)?, n),
     }
 }
 
@@ -161,7 +163,7 @@ fn contains_if_any(out: Writer, it: Option<Numbered>) -> Put
 {
     match it {
         None => Ok(out),
-        Some(n) => contains_member(indent(comma(out)?)?, n),
+        Some(n) => contains_member(comma(out)?, n),
     }
 }
 
@@ -170,7 +172,7 @@ fn subscript_if_any(out: Writer, it: Option<Numbered>) -> Put
 {
     match it {
         None => Ok(out),
-        Some(n) => subscript_member(indent(comma(out)?)?, n),
+        Some(n) => subscript_member(comma(out)?, n),
     }
 }
 
@@ -220,8 +222,8 @@ pub(crate) fn sequence_table(
     ensures { IfOk result (λ new. new ≡ out ++ (static_or is_static [] ++ (word "PySequenceMethods" ∷ name_token "cyc_sq_" n ∷ sign "=" ∷ members (member ".sq_length" "=" "cyc_len_" first ++ member ".sq_contains" "=" "cyc_has_" second)))) }
 {
     let out = static_word(out, is_static)?.word(b"PySequenceMethods", b"")?;
-    let out = open_brace(equals(numbered(out, b"cyc_sq_", n)?)?)?;
-    ends(sequence_members(out, first, second)?)
+    let out = open_inner(equals(numbered(out, b"cyc_sq_", n)?)?)?;
+    ends_here(sequence_members(out, first, second)?)
 }
 
 pub(crate) fn mapping_table(
@@ -234,14 +236,21 @@ pub(crate) fn mapping_table(
     ensures { IfOk result (λ new. new ≡ out ++ (static_or is_static [] ++ (word "PyMappingMethods" ∷ name_token "cyc_mp_" n ∷ sign "=" ∷ members (member ".mp_length" "=" "cyc_len_" first ++ member ".mp_subscript" "=" "cyc_item_" second)))) }
 {
     let out = static_word(out, is_static)?.word(b"PyMappingMethods", b"")?;
-    let out = open_brace(equals(numbered(out, b"cyc_mp_", n)?)?)?;
-    ends(mapping_members(out, first, second)?)
+    let out = open_inner(equals(numbered(out, b"cyc_mp_", n)?)?)?;
+    ends_here(mapping_members(out, first, second)?)
+}
+
+#[tactic(auto, unfolding(c_state::specs::CTokens::c_tokens, c_state::specs::CTokens::tokens_from))]
+fn name_start(out: Writer) -> Put
+    ensures { IfOk result (λ new. new ≡ out ++ text ".tp_name =") }
+{
+    out.text(b".tp_name = ")
 }
 
 fn name_member(out: Writer, name: &[u8]) -> Put
     ensures { IfOk result (λ new. new ≡ out ++ (text ".tp_name =" ++ (string name.now ∷ []))) }
 {
-    out.text(b".tp_name =")?.string(name)
+    name_start(out)?.string(name)
 }
 
 fn size_of(out: Writer, n: Numbered) -> Put
@@ -254,9 +263,9 @@ fn size_of(out: Writer, n: Numbered) -> Put
 fn three(out: Writer, it: &TypeObject) -> Put
     ensures { IfOk result (λ new. new ≡ out ++ first_three it.now) }
 {
-    let out = comma(name_member(indent(out)?, it.name.as_slice())?)?;
-    let out = comma(size_of(indent(out)?, it.size)?)?;
-    indent(out)?.text(b".tp_flags = Py_TPFLAGS_DEFAULT | Py_TPFLAGS_BASETYPE")
+    let out = comma_line(name_member(indent(out)?, it.name.as_slice())?)?;
+    let out = comma_line(size_of(out, it.size)?)?;
+    out.text(b".tp_flags = Py_TPFLAGS_DEFAULT | Py_TPFLAGS_BASETYPE")
 }
 
 fn functions(out: Writer, it: &TypeObject) -> Put
@@ -279,10 +288,17 @@ fn all_members(out: Writer, it: &TypeObject) -> Put
     tables(functions(three(out, it)?, it)?, it)
 }
 
+#[tactic(auto, unfolding(c_state::specs::CTokens::c_tokens, c_state::specs::CTokens::tokens_from))]
+fn type_start(out: Writer) -> Put
+    ensures { IfOk result (λ new. new ≡ out ++ text "= { PyVarObject_HEAD_INIT(NULL, 0)") }
+{
+    out.text(b" = { PyVarObject_HEAD_INIT(NULL, 0)")
+}
+
 pub(crate) fn type_object(out: Writer, is_static: bool, it: &TypeObject) -> Put
     ensures { IfOk result (λ new. new ≡ out ++ (static_or is_static [] ++ (word "PyTypeObject" ∷ name_token "cyc_ty_" it.now.class ∷ (text "= { PyVarObject_HEAD_INIT(NULL, 0)" ++ (listed (λ tokens. tokens) (type_members it.now) ++ text "};"))))) }
 {
     let out = static_word(out, is_static)?.word(b"PyTypeObject", b"")?;
-    let out = numbered(out, b"cyc_ty_", it.class)?.text(b"= { PyVarObject_HEAD_INIT(NULL, 0)")?;
+    let out = type_start(numbered(out, b"cyc_ty_", it.class)?)?;
     ends(all_members(out, it)?)
 }

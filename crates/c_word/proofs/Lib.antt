@@ -1,4 +1,5 @@
 mod Callees
+mod Digits
 mod Halves
 mod KeywordRows
 mod Once

@@ -1,5 +1,5 @@
 -- The spellings of several numbers in one word. The project's own.
-use Rattle.std.specs.Prelude.{ℕ, ◌≤◌, List, [], ◌∷◌, ◌++◌, Bool, false, not, ◌&&◌, codes, decimal}
+use Rattle.std.specs.Prelude.{◌≡◌, ⊤, ℕ, ◌≤◌, List, [], ◌∷◌, ◌++◌, Bool, false, not, ◌&&◌, codes, decimal}
 use Rattle.std.specs.Char.{is_ascii_digit}
 use Rattle.std.specs.List.{AllByRecursion, list_all}
 use Rattle.c_state.specs.CTokens.{is_word_byte}
@@ -16,3 +16,8 @@ AreDigits bytes = AllByRecursion (λ b. (48 ≤ b) × (b ≤ 57)) bytes
 abbrev pub is_identifier : List ℕ → Bool
 is_identifier [] = false
 is_identifier (first ∷ more) = not (is_ascii_digit first) && list_all is_word_byte (first ∷ more)
+
+-- no digit stands first
+abbrev pub Stops : List ℕ → Type 0
+Stops [] = ⊤
+Stops (first ∷ more) = is_ascii_digit first ≡ false

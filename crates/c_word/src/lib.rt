@@ -3,6 +3,7 @@
 
 mod functions;
 mod keywords;
+mod literals;
 mod names;
 mod numbers;
 #[cfg(test)]
@@ -10,5 +11,6 @@ mod tests;
 
 pub use functions::{callee, function};
 pub use keywords::is_keyword;
+pub use literals::magnitude;
 pub use names::{exception, table, variable};
 pub use numbers::{lettered, number, numbered, of_field};

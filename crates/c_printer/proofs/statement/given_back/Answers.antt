@@ -8,4 +8,4 @@ returns-in-None c = rw c.in-None.is (c.text.ensures)
 
 pub returns-in_ok-value-in-Some : goal.returns-in_ok-value-in-Some
 unfolding statement_spelling
-returns-in_ok-value-in-Some c = rw c.in-Some.is (behind _ c.args.out c.in_ok-word-in-Some.field-0 _ _ c.in_ok-word-in-Some.ensures (behind _ c.in_ok-word-in-Some.field-0 c.in_ok-value-in-Some.field-0 _ _ c.in_ok-value-in-Some.ensures c.semicolon.ensures))
+returns-in_ok-value-in-Some c = rw c.in-Some.is (behind _ c.args.out c.in_ok-return_word-in-Some.field-0 _ _ c.in_ok-return_word-in-Some.ensures (behind _ c.in_ok-return_word-in-Some.field-0 c.in_ok-value-in-Some.field-0 _ _ c.in_ok-value-in-Some.ensures c.semicolon.ensures))

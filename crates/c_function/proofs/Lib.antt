@@ -1,0 +1,4 @@
+pub mod FirstTokens
+pub mod HeadRows
+pub mod Rows
+pub mod Texts

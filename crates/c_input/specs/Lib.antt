@@ -1,0 +1,4 @@
+pub mod Reads
+pub mod Types
+pub mod Literals
+pub mod Addresses

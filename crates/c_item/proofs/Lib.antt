@@ -1,0 +1,9 @@
+mod Bodies
+mod Ends
+mod Lasts
+mod Openings
+mod Opens
+mod Passing
+mod Results
+mod Spelled
+mod Typing

@@ -1,0 +1,7 @@
+-- What holds of the value of a result.
+use Rattle.std.proofs.Common.{Ok, Err}
+use Rattle.std.specs.Prelude.{Result, IfOk}
+
+pub if_ok : {A E : Type 0} (r : Result A E) (P Q : A → Type 0) → ((a : A) → P a → Q a) → IfOk r P → IfOk r Q
+if_ok (Ok a) P Q f h = f a h
+if_ok (Err e) P Q f h = tt

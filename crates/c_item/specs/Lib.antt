@@ -1,0 +1,4 @@
+pub mod Fixed
+pub mod Typed
+pub mod Words
+pub mod Kinds

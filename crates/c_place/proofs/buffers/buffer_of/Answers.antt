@@ -1,0 +1,7 @@
+use Rattle.std.proofs.Common.{◌++◌, List, ap, ◌∙◌}
+use Rattle.c_state.specs.CTokens.{CToken}
+use Rattle.c_place.proofs.Fixed.{buffer_spelled}
+use Rattle.c_place.proofs.buffers.buffer_of.Goals as goal
+
+pub returns-clause-every : goal.returns-clause-every
+returns-clause-every c = λ y rest form e. c.told_buffer.ensures.every y rest form (e ∙ ap (λ (t : List CToken). t ++ rest) (buffer_spelled y))
