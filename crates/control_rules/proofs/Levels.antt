@@ -13,8 +13,8 @@ use Rattle.cy_tree.specs.declared.stmt.Suite.{Suite, roll-Suite, fold-roll-Suite
 use Rattle.cy_tree.specs.declared.stmt.Arm.{Arm, fold_out-Arm}
 use Rattle.cy_tree.specs.declared.stmt.Handler.{Handler, fold_out-Handler}
 use Rattle.control_rules.specs.declared.around.Around.{Around}
-use Rattle.control_rules.specs.Rules.{Inside, stmt_step, suite_step, arm_step, handler_step, loop_step, outside_loop, outside_function, outside_handler, inside_compound, raise_step, cdef_step, bare_stmt_step, bare_suite_step, bare_arm_step, bare_step, loop_stmt, loop_suite, loop_arm, loop_handler, return_stmt, return_suite, return_arm, return_handler, raise_stmt, raise_suite, raise_arm, raise_handler, cdef_stmt, cdef_suite, cdef_arm, cdef_handler, bare_stmt, bare_suite, bare_arm, bare_handler, is_none, not_last}
-use Rattle.control_rules.specs.Walk.{IsNoted, ArmsNoted, HandlersNoted, MaybeNoted, SimplesNoted, StmtNoted, StmtsNoted, SuiteNoted, compound, handling, looping}
+use Rattle.control_rules.specs.Rules.{Inside, stmt_step, suite_step, arm_step, handler_step, loop_step, outside_loop, outside_function, outside_handler, inside_compound, raise_step, cdef_step, bare_stmt_step, bare_suite_step, bare_arm_step, bare_step, loop_stmt, loop_suite, return_stmt, return_suite, raise_stmt, raise_suite, cdef_stmt, cdef_suite, bare_stmt, bare_suite, is_empty, not_last}
+use Rattle.control_rules.specs.Walk.{IsNoted, ArmsNoted, HandlersNoted, MaybeNoted, SimplesNoted, StmtNoted, StmtsNoted, SuiteNoted, compound, handling, looping, loop_arm, loop_handler, return_arm, return_handler, raise_arm, raise_handler, cdef_arm, cdef_handler, bare_arm, bare_handler}
 use Rattle.control_rules.proofs.Five.{both, equal}
 
 abbrev pub StmtLevelNoted : ℕ → Around → Stmt-F Stmt Suite Arm Handler → Option Refusal → Option Refusal → Type 0
@@ -93,7 +93,7 @@ handler-noted file around inner h body is_last around_is is {least} {next} {resu
     (both first inside)
 
 -- a handler is the last where none is behind it
-pub last-is : (f : Handler → Inside) (hs : List Handler) (n : ℕ) → n ≤ length hs → is_none (map f (drop n hs)) ≡ nat_eq n (length hs)
+pub last-is : (f : Handler → Inside) (hs : List Handler) (n : ℕ) → n ≤ length hs → is_empty (map f (drop n hs)) ≡ nat_eq n (length hs)
 last-is f [] zero within = refl
 last-is f [] (suc n) within = absurd (omega (arith, within))
 last-is f (h ∷ hs) zero within = grind arith

@@ -17,8 +17,6 @@ use Rattle.cy_tree.specs.declared.stmt.Simple.TheVariants as simple
 use Rattle.cy_tree.specs.declared.stmt.Stmt.{Stmt, Stmt-F, fold-Stmt}
 use Rattle.cy_tree.specs.declared.stmt.Stmt.TheOpen.{Suite-F, Arm-F, Handler-F}
 use Rattle.cy_tree.specs.declared.stmt.Suite.{Suite, fold-Suite}
-use Rattle.cy_tree.specs.declared.stmt.Arm.{Arm, fold-Arm}
-use Rattle.cy_tree.specs.declared.stmt.Handler.{Handler, fold-Handler}
 use Rattle.first_breach.specs.First.{broken_if}
 
 abbrev pub breaks : ℕ → ℕ → ℕ → Refusal
@@ -59,7 +57,7 @@ arm_step a around = a.body around
 abbrev pub handler_step : Handler-F Inside Inside Inside Inside → Inside
 handler_step h around = h.body around
 
--- ---- 7: `break` or `continue` outside a loop, which is the first suite of `while` and `for`
+-- ---- 7: `break` or `continue` outside a loop, which is the first suite of `while` and `for`; around its `else` suite is what is around it
 
 abbrev pub outside_loop : ℕ → Simple → Inside
 outside_loop file (simple.Break at) in_loop = broken_if (not in_loop) (breaks file 7 at)
@@ -77,13 +75,7 @@ loop_stmt file = fold-Stmt Inside Inside Inside Inside (loop_step file) (suite_s
 abbrev pub loop_suite : ℕ → Suite → Inside
 loop_suite file = fold-Suite Inside Inside Inside Inside (loop_step file) (suite_step (outside_loop file)) arm_step handler_step
 
-abbrev pub loop_arm : ℕ → Arm → Inside
-loop_arm file = fold-Arm Inside Inside Inside Inside (loop_step file) (suite_step (outside_loop file)) arm_step handler_step
-
-abbrev pub loop_handler : ℕ → Handler → Inside
-loop_handler file = fold-Handler Inside Inside Inside Inside (loop_step file) (suite_step (outside_loop file)) arm_step handler_step
-
--- ---- 8: `return` outside a function
+-- ---- 8: `return` outside a function, which has no other function in it
 
 abbrev pub outside_function : ℕ → Simple → Inside
 outside_function file (simple.ReturnNode at value) in_function = broken_if (not in_function) (breaks file 8 at)
@@ -95,13 +87,7 @@ return_stmt file = fold-Stmt Inside Inside Inside Inside (stmt_step (outside_fun
 abbrev pub return_suite : ℕ → Suite → Inside
 return_suite file = fold-Suite Inside Inside Inside Inside (stmt_step (outside_function file)) (suite_step (outside_function file)) arm_step handler_step
 
-abbrev pub return_arm : ℕ → Arm → Inside
-return_arm file = fold-Arm Inside Inside Inside Inside (stmt_step (outside_function file)) (suite_step (outside_function file)) arm_step handler_step
-
-abbrev pub return_handler : ℕ → Handler → Inside
-return_handler file = fold-Handler Inside Inside Inside Inside (stmt_step (outside_function file)) (suite_step (outside_function file)) arm_step handler_step
-
--- ---- 9: a bare `raise` outside the suite of a handler
+-- ---- 9: a bare `raise` outside the suite of a handler; the other suites of its `try` are none
 
 abbrev pub outside_handler : ℕ → Simple → Inside
 outside_handler file (simple.Raise at None) in_handler = broken_if (not in_handler) (breaks file 9 at)
@@ -116,13 +102,7 @@ raise_stmt file = fold-Stmt Inside Inside Inside Inside (stmt_step (outside_hand
 abbrev pub raise_suite : ℕ → Suite → Inside
 raise_suite file = fold-Suite Inside Inside Inside Inside (stmt_step (outside_handler file)) (suite_step (outside_handler file)) arm_step raise_step
 
-abbrev pub raise_arm : ℕ → Arm → Inside
-raise_arm file = fold-Arm Inside Inside Inside Inside (stmt_step (outside_handler file)) (suite_step (outside_handler file)) arm_step raise_step
-
-abbrev pub raise_handler : ℕ → Handler → Inside
-raise_handler file = fold-Handler Inside Inside Inside Inside (stmt_step (outside_handler file)) (suite_step (outside_handler file)) arm_step raise_step
-
--- ---- 25: a `cdef` statement inside `if`, a loop, `try` or `with`
+-- ---- 25: a `cdef` statement inside `if`, a loop, `try` or `with`: in any of its suites
 
 abbrev pub inside_compound : ℕ → Simple → Inside
 inside_compound file (simple.Cdef at kind names) in_compound = broken_if in_compound (breaks file 25 at)
@@ -138,12 +118,6 @@ cdef_stmt file = fold-Stmt Inside Inside Inside Inside (cdef_step file) (suite_s
 abbrev pub cdef_suite : ℕ → Suite → Inside
 cdef_suite file = fold-Suite Inside Inside Inside Inside (cdef_step file) (suite_step (inside_compound file)) arm_step handler_step
 
-abbrev pub cdef_arm : ℕ → Arm → Inside
-cdef_arm file = fold-Arm Inside Inside Inside Inside (cdef_step file) (suite_step (inside_compound file)) arm_step handler_step
-
-abbrev pub cdef_handler : ℕ → Handler → Inside
-cdef_handler file = fold-Handler Inside Inside Inside Inside (cdef_step file) (suite_step (inside_compound file)) arm_step handler_step
-
 -- ---- 27: a bare `except` that isn't last; a handler's breaches are by whether it is last
 
 abbrev pub all_of : List (List Refusal) → List Refusal
@@ -154,13 +128,13 @@ abbrev pub maybe_of : Option (List Refusal) → List Refusal
 maybe_of None = []
 maybe_of (Some part) = part
 
-abbrev pub is_none : List Inside → Bool
-is_none [] = true
-is_none (handler ∷ more) = false
+abbrev pub is_empty : List Inside → Bool
+is_empty [] = true
+is_empty (handler ∷ more) = false
 
 abbrev pub of_handlers : List Inside → List Refusal
 of_handlers [] = []
-of_handlers (handler ∷ more) = handler (is_none more) ++ of_handlers more
+of_handlers (handler ∷ more) = handler (is_empty more) ++ of_handlers more
 
 abbrev pub not_last : ℕ → ℕ → Option Expr → Inside
 not_last file at None is_last = broken_if (not is_last) (breaks file 27 at)
@@ -189,12 +163,6 @@ bare_stmt file = fold-Stmt (List Refusal) (List Refusal) (List Refusal) Inside b
 
 abbrev pub bare_suite : ℕ → Suite → List Refusal
 bare_suite file = fold-Suite (List Refusal) (List Refusal) (List Refusal) Inside bare_stmt_step bare_suite_step bare_arm_step (bare_step file)
-
-abbrev pub bare_arm : ℕ → Arm → List Refusal
-bare_arm file = fold-Arm (List Refusal) (List Refusal) (List Refusal) Inside bare_stmt_step bare_suite_step bare_arm_step (bare_step file)
-
-abbrev pub bare_handler : ℕ → Handler → Inside
-bare_handler file = fold-Handler (List Refusal) (List Refusal) (List Refusal) Inside bare_stmt_step bare_suite_step bare_arm_step (bare_step file)
 
 -- ---- a file
 

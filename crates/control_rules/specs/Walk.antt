@@ -8,11 +8,43 @@ use Rattle.cy_tree.specs.declared.decl.Top.{Top}
 use Rattle.cy_tree.specs.declared.stmt.Simple.{Simple}
 use Rattle.cy_tree.specs.declared.stmt.Stmt.{Stmt}
 use Rattle.cy_tree.specs.declared.stmt.Suite.{Suite}
-use Rattle.cy_tree.specs.declared.stmt.Arm.{Arm}
-use Rattle.cy_tree.specs.declared.stmt.Handler.{Handler}
+use Rattle.cy_tree.specs.declared.stmt.Arm.{Arm, fold-Arm}
+use Rattle.cy_tree.specs.declared.stmt.Handler.{Handler, fold-Handler}
 use Rattle.first_breach.specs.First.{IsLeastWith}
 use Rattle.control_rules.specs.declared.around.Around.{Around}
-use Rattle.control_rules.specs.Rules.{in_each, in_maybe, outside_loop, outside_function, outside_handler, inside_compound, all_of, maybe_of, of_handlers, in_member, in_top, loop_stmt, loop_suite, loop_arm, loop_handler, return_stmt, return_suite, return_arm, return_handler, raise_stmt, raise_suite, raise_arm, raise_handler, cdef_stmt, cdef_suite, cdef_arm, cdef_handler, bare_stmt, bare_suite, bare_arm, bare_handler}
+use Rattle.control_rules.specs.Rules.{in_each, in_maybe, outside_loop, outside_function, outside_handler, inside_compound, all_of, maybe_of, of_handlers, in_member, in_top, loop_stmt, loop_suite, return_stmt, return_suite, raise_stmt, raise_suite, cdef_stmt, cdef_suite, bare_stmt, bare_suite, loop_step, stmt_step, suite_step, arm_step, handler_step, raise_step, cdef_step, bare_stmt_step, bare_suite_step, bare_arm_step, bare_step, Inside}
+
+-- each rule in an arm and in a handler
+
+abbrev pub loop_arm : ℕ → Arm → Inside
+loop_arm file = fold-Arm Inside Inside Inside Inside (loop_step file) (suite_step (outside_loop file)) arm_step handler_step
+
+abbrev pub loop_handler : ℕ → Handler → Inside
+loop_handler file = fold-Handler Inside Inside Inside Inside (loop_step file) (suite_step (outside_loop file)) arm_step handler_step
+
+abbrev pub return_arm : ℕ → Arm → Inside
+return_arm file = fold-Arm Inside Inside Inside Inside (stmt_step (outside_function file)) (suite_step (outside_function file)) arm_step handler_step
+
+abbrev pub return_handler : ℕ → Handler → Inside
+return_handler file = fold-Handler Inside Inside Inside Inside (stmt_step (outside_function file)) (suite_step (outside_function file)) arm_step handler_step
+
+abbrev pub raise_arm : ℕ → Arm → Inside
+raise_arm file = fold-Arm Inside Inside Inside Inside (stmt_step (outside_handler file)) (suite_step (outside_handler file)) arm_step raise_step
+
+abbrev pub raise_handler : ℕ → Handler → Inside
+raise_handler file = fold-Handler Inside Inside Inside Inside (stmt_step (outside_handler file)) (suite_step (outside_handler file)) arm_step raise_step
+
+abbrev pub cdef_arm : ℕ → Arm → Inside
+cdef_arm file = fold-Arm Inside Inside Inside Inside (cdef_step file) (suite_step (inside_compound file)) arm_step handler_step
+
+abbrev pub cdef_handler : ℕ → Handler → Inside
+cdef_handler file = fold-Handler Inside Inside Inside Inside (cdef_step file) (suite_step (inside_compound file)) arm_step handler_step
+
+abbrev pub bare_arm : ℕ → Arm → List Refusal
+bare_arm file = fold-Arm (List Refusal) (List Refusal) (List Refusal) Inside bare_stmt_step bare_suite_step bare_arm_step (bare_step file)
+
+abbrev pub bare_handler : ℕ → Handler → Inside
+bare_handler file = fold-Handler (List Refusal) (List Refusal) (List Refusal) Inside bare_stmt_step bare_suite_step bare_arm_step (bare_step file)
 
 -- what is around the statements of a module, and those of a function
 abbrev pub in_module : Around

@@ -1,6 +1,5 @@
 use Rattle.std.proofs.Common.{◌+◌, drop, length, nat_eq, subst, sym, arith}
-use Rattle.control_rules.specs.Rules.{bare_handler}
-use Rattle.control_rules.specs.Walk.{ArmsNoted, HandlersNoted, StmtsNoted}
+use Rattle.control_rules.specs.Walk.{ArmsNoted, HandlersNoted, StmtsNoted, bare_handler}
 use Rattle.control_rules.proofs.Five.{both, none}
 use Rattle.control_rules.proofs.Levels.{HandlerNoted, arm-noted, block-noted, for-noted, handler-noted, if-noted, inline-noted, last-is, simples-noted, try-noted, while-noted, with-noted}
 use Rattle.first_breach.proofs.Loops.{ended, next}
