@@ -1,0 +1,91 @@
+//! Objects of the object space, and the dotted names of what a script enters.
+ghost use Rattle.std.specs.Prelude.{◌≡◌, IfOk};
+
+use c_state::{Bytes, Exception};
+use cy_base::OutOfMemory;
+use std::alloc::Global;
+
+/// The dotted name of an extension class, `module.Class`.
+#[derive(Drop)]
+pub struct ClassName {
+    pub module: Bytes,
+    pub class: Bytes,
+}
+
+fn copied(alloc: Global, bytes: &Bytes) -> Result<Bytes, OutOfMemory>
+    ensures { IfOk result (λ r. r ≡ bytes.now) }
+{
+    Ok(Bytes::new(Vec::from_slice(alloc, bytes.as_slice())?))
+}
+
+impl ClassName {
+    /// A copy of the name.
+    pub fn copied(&self, alloc: Global) -> Result<ClassName, OutOfMemory>
+        ensures { IfOk result (λ r. r ≡ self.now) }
+    {
+        Ok(ClassName {
+            module: copied(alloc, &self.module)?,
+            class: copied(alloc, &self.class)?,
+        })
+    }
+}
+
+/// The dotted name of a function of a module, `module.f`.
+#[derive(Drop)]
+pub struct FunctionPath {
+    pub module: Bytes,
+    pub name: Bytes,
+}
+
+/// The dotted name of a method or a field, `module.Class.m`.
+#[derive(Drop)]
+pub struct MemberPath {
+    pub module: Bytes,
+    pub class: Bytes,
+    pub name: Bytes,
+}
+
+/// What can be called by its name from outside.
+#[derive(Drop)]
+pub enum Callee {
+    Function(FunctionPath),
+    Method(MemberPath),
+}
+
+/// An object of the object space. Instances and views are numbered as they are made.
+#[derive(Drop)]
+pub enum Obj {
+    Foreign(u32),
+    Inst(u32),
+    View(u32),
+    Class(ClassName),
+    ExceptionType(Exception),
+    NoneNode,
+    TrueNode,
+    FalseNode,
+}
+
+impl Obj {
+    /// A copy of the object.
+    pub fn copied(&self, alloc: Global) -> Result<Obj, OutOfMemory>
+        ensures { IfOk result (λ r. r ≡ self.now) }
+    {
+        match self {
+            Obj::Foreign(number) => Ok(Obj::Foreign(*number)),
+            Obj::Inst(number) => Ok(Obj::Inst(*number)),
+            Obj::View(number) => Ok(Obj::View(*number)),
+            Obj::Class(name) => Ok(Obj::Class(name.copied(alloc)?)),
+            Obj::ExceptionType(exception) => Ok(Obj::ExceptionType(*exception)),
+            Obj::NoneNode => Ok(Obj::NoneNode),
+            Obj::TrueNode => Ok(Obj::TrueNode),
+            Obj::FalseNode => Ok(Obj::FalseNode),
+        }
+    }
+}
+
+/// Whether an instance is of the class itself, or of a heap type below it.
+#[derive(Clone, Copy, Debug, PartialEq, Eq)]
+pub enum Allocation {
+    Static,
+    Heap,
+}
