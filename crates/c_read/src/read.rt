@@ -36,8 +36,9 @@ fn trees(alloc: Global, items: &[Items<Token>]) -> Result<Items<CItem>, CStop>
     Ok(Items::from_vec(trees))
 }
 
-/// Reads a C text of fewer than 2^32 bytes: each of its items is the tree whose spelling it is, and no two trees have one
-/// spelling. Refused says how many items were read before what is neither the end nor an item (ISO/IEC 9899:2011 6.4, 6.9).
+/// Reads a C text of fewer than 2^32 bytes: each of its items is the tree whose spelling it is. Where memory isn't wanting,
+/// the text has no other reading. Refused says how many items were read before what is neither the end nor an item (ISO/IEC
+/// 9899:2011 6.4, 6.9).
 pub fn read_c(alloc: Global, bytes: &[u8]) -> Result<CFile, CStop>
     requires { length bytes.now < 2 ^ 32 }
     ensures read { IsAnswer (c_reading bytes.now) (file_answer result) }
