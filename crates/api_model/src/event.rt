@@ -1,7 +1,7 @@
 //! Trace lines.
 use crate::object::{Allocation, Callee, ClassName, MemberPath, Obj};
 use crate::op::{Answer, Op};
-use c_state::{Bytes, NumberType};
+use c_token::{Bytes, NumberType};
 use sqlite_items::Items;
 
 /// One line of a trace. `Get` and `Put` have the view, the byte place from the start of its buffer, the element's

@@ -1,7 +1,7 @@
 //! Objects of the object space, and the dotted names of what a script enters.
 ghost use Rattle.std.specs.Prelude.{◌≡◌, IfOk};
 
-use c_state::{Bytes, Exception};
+use c_token::{Bytes, Exception};
 use cy_base::OutOfMemory;
 use std::alloc::Global;
 

@@ -1,6 +1,6 @@
 //! Operations, and what they come to.
 use crate::object::{ClassName, Obj};
-use c_state::Bytes;
+use c_token::Bytes;
 use sqlite_items::Items;
 
 /// The operations of two objects (Python/C API manual, "Number Protocol").

@@ -3,7 +3,7 @@ use crate::{
     answers_are_in_form, entries_need_the_lock, functions_are_distinct, row, rows_are_clean,
     rows_need_the_lock,
 };
-use c_state::Bytes;
+use c_token::Bytes;
 use cy_base::OutOfMemory;
 use sqlite_items::Items;
 use std::alloc::Global;

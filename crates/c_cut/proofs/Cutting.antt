@@ -1,10 +1,10 @@
 -- Items that are cut token by token.
 use Rattle.std.proofs.Common.{◌≡◌, List, [], ◌∷◌, ◌++◌, true, false, Option, Some, None, is_none, unwrap_or, refl, ap, sym, ◌∙◌, append_assoc, map, Result, Ok, Err}
 use Rattle.std.specs.Prelude.{IfOk}
-use Rattle.c_state.specs.CTokens.{CToken}
+use Rattle.c_token.specs.CTokens.{CToken}
 use Rattle.c_cut.specs.declared.token.Token.{Token}
 use Rattle.c_cut.specs.Shown.{item_shown, items_shown, left, token_shown}
-use Rattle.c_state.specs.CReading.{ItemPlace, c_items, item_start, items_from, place_after, role_of, with_token}
+use Rattle.c_token.specs.Cutting.{ItemPlace, c_items, item_start, items_from, place_after, role_of, with_token}
 
 -- the items, where some tokens of the first were taken already
 abbrev pub onto : List CToken → List (List CToken) → List (List CToken)

@@ -1,7 +1,7 @@
 -- The tokens, and the places in an item, that the code stands for.
 use Rattle.std.specs.Prelude.{List, [], ◌∷◌, map}
-use Rattle.c_state.specs.CTokens.{CToken, Word, Str, Character, Sign, HeaderName, LineEnd, Other}
-use Rattle.c_state.specs.CReading as spec
+use Rattle.c_token.specs.CTokens.{CToken, Word, Str, Character, Sign, HeaderName, LineEnd, Other}
+use Rattle.c_token.specs.Cutting as spec
 use Rattle.c_cut.specs.declared.token.Token.{Token}
 use Rattle.c_cut.specs.declared.token.Token.TheVariants as token
 use Rattle.c_cut.specs.declared.place.Role.{Role}

@@ -1,7 +1,7 @@
 //! The cutting of tokens into items.
 ghost use Rattle.std.specs.Prelude.{◌≡◌, ◌++◌, [], ◌∷◌, List, IfOk};
-ghost use Rattle.c_state.specs.CTokens.{CToken};
-ghost use Rattle.c_state.specs.CReading.{c_items};
+ghost use Rattle.c_token.specs.CTokens.{CToken};
+ghost use Rattle.c_token.specs.Cutting.{c_items};
 ghost use Rattle.c_cut.specs.Shown.{item_shown, items_shown, left};
 
 use crate::place::{Place, place_after, role_of};

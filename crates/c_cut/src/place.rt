@@ -1,8 +1,8 @@
 //! Where a token stands in its item.
 ghost use Rattle.std.specs.Prelude.{◌≡◌, suc, IfOk};
 ghost use Rattle.std.specs.Option.{option_map};
-ghost use Rattle.c_state.specs.CReading.{place_after, role_of};
-ghost use Rattle.c_state.specs.CTokens.{Sign};
+ghost use Rattle.c_token.specs.Cutting.{place_after, role_of};
+ghost use Rattle.c_token.specs.CTokens.{Sign};
 ghost use Rattle.c_cut.specs.Shown.{place_shown, role_shown, token_shown};
 
 use crate::token::Token;

@@ -1,5 +1,5 @@
 use crate::{Token, cut};
-use c_state::Bytes;
+use c_token::Bytes;
 use std::alloc::{AllocError, Global};
 use std::test::Fail;
 

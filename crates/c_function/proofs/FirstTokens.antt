@@ -2,7 +2,7 @@
 use Rattle.std.proofs.Common.{◌≡◌, Bool, true, false, ◌&&◌, List, [], ◌∷◌, ◌++◌, Some, None, refl, ap, ◌∙◌}
 use Rattle.std.specs.Prelude.{not}
 use Rattle.std.specs.List.{flat_map}
-use Rattle.c_state.specs.CTokens.{CToken, Word, word, sign, c_tokens, tokens_from}
+use Rattle.c_token.specs.CTokens.{CToken, Word, word, sign, c_tokens, tokens_from}
 use Rattle.c_tree.specs.declared.item.Line.{Line}
 use Rattle.c_tree.specs.declared.item.Line.TheVariants as line
 use Rattle.c_tree.specs.declared.name.FixedParameter.TheVariants as fixed

@@ -4,7 +4,7 @@ use Rattle.std.specs.Prelude.{◌≢◌, nat_eq, codes, IfOk, Result, Ok, Err}
 use Rattle.std.specs.List.{AllByRecursion}
 use Rattle.std.specs.Str.{bytes_eq}
 use Rattle.std.proofs.lemmas.Bool.{eq-eqb}
-use Rattle.c_state.specs.CTokens.{CToken, Word, word, sign, c_tokens, tokens_from}
+use Rattle.c_token.specs.CTokens.{CToken, Word, word, sign, c_tokens, tokens_from}
 use Rattle.c_tree.specs.declared.item.CHead.{CHead}
 use Rattle.c_tree.specs.declared.item.CHead.TheVariants as head
 use Rattle.c_tree.specs.declared.item.Parameter.{Parameter}

@@ -1,6 +1,6 @@
 -- The tokens of fixed texts.
 use Rattle.std.proofs.Common.{◌≡◌, refl}
-use Rattle.c_state.specs.CTokens.{c_tokens, tokens_from}
+use Rattle.c_token.specs.CTokens.{c_tokens, tokens_from}
 use Rattle.c_tree.specs.declared.item.InitialValue.{InitialValue}
 use Rattle.c_tree.specs.declared.item.InitialValue.TheVariants as initial
 use Rattle.c_tree.specs.Items.{initial_spelling}

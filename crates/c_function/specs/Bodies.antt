@@ -1,7 +1,7 @@
 -- What stands between a function's braces. The project's own profile of C (ISO/IEC 9899:2011 6.9.1).
 use Rattle.std.specs.Prelude.{List, [], ◌∷◌, ◌++◌}
 use Rattle.std.specs.List.{flat_map, AllByRecursion}
-use Rattle.c_state.specs.CTokens.{CToken, sign}
+use Rattle.c_token.specs.CTokens.{CToken, sign}
 use Rattle.c_tree.specs.Forms.{IsDeclaration, IsLine, LabelsStand}
 use Rattle.c_tree.specs.Items.{declaration_spelling, line_spelling}
 use Rattle.c_function.specs.declared.functions.Body.{Body}

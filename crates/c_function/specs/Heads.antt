@@ -1,7 +1,7 @@
 -- Heads of functions, told token by token. The project's own profile of C (Python/C API manual, "Common Object
 -- Structures", "Type Objects", "Initializing C modules").
 use Rattle.std.specs.Prelude.{◌≡◌, ◌≢◌, ⊤, ℕ, List, [], ◌∷◌, ◌++◌, Option, Some, None}
-use Rattle.c_state.specs.CTokens.{CToken, word, sign}
+use Rattle.c_token.specs.CTokens.{CToken, word, sign}
 use Rattle.c_tree.specs.declared.item.CHead.{CHead}
 use Rattle.c_tree.specs.declared.item.CHead.TheVariants as head
 use Rattle.c_tree.specs.declared.item.Parameter.{Parameter}

@@ -1,7 +1,7 @@
 -- Parts of functions. The project's own profile of C (ISO/IEC 9899:2011 6.7, 6.9.1).
 use Rattle.std.specs.Prelude.{ℕ, List, [], ◌∷◌, ◌++◌, Bool, true, false, not, ◌&&◌, ◌||◌, codes}
 use Rattle.std.specs.Str.{bytes_eq}
-use Rattle.c_state.specs.CTokens.{CToken, Word, Sign, sign, word}
+use Rattle.c_token.specs.CTokens.{CToken, Word, Sign, sign, word}
 use Rattle.c_tree.specs.declared.item.InitialValue.{InitialValue}
 use Rattle.c_tree.specs.declared.item.InitialValue.TheVariants as initial
 use Rattle.c_tree.specs.declared.item.Parameter.{Parameter}

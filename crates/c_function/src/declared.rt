@@ -1,7 +1,7 @@
 //! Declarations of a function's variables.
 ghost use Rattle.std.specs.Prelude.{◌≡◌, ◌++◌, List, Some, IfOk, false, ⊤};
 ghost use Rattle.std.specs.List.{flat_map, AllByRecursion};
-ghost use Rattle.c_state.specs.CTokens.{CToken};
+ghost use Rattle.c_token.specs.CTokens.{CToken};
 ghost use Rattle.c_tree.specs.declared.item.Declaration.{Declaration as DeclarationTree};
 ghost use Rattle.c_tree.specs.Forms.{IsDeclaration};
 ghost use Rattle.c_tree.specs.Items.{declaration_spelling};

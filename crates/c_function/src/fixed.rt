@@ -1,6 +1,6 @@
 //! Heads that are fixed but for the numbers in a function's name.
 ghost use Rattle.std.specs.Prelude.{◌≡◌, ◌++◌, ◌∷◌, [], codes, decimal};
-ghost use Rattle.c_state.specs.CTokens.{Word};
+ghost use Rattle.c_token.specs.CTokens.{Word};
 ghost use Rattle.c_tree.specs.Forms.{IsFieldNumber};
 ghost use Rattle.c_word.specs.Numbers.{two_numbers};
 ghost use Rattle.c_input.specs.Reads.{Finds, Reads, ReadsEvery, Takes};

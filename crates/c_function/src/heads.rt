@@ -1,6 +1,6 @@
 //! Heads of functions.
 ghost use Rattle.std.specs.Prelude.{◌≡◌, ◌++◌, ◌∷◌, [], List, codes, IfOk};
-ghost use Rattle.c_state.specs.CTokens.{Word};
+ghost use Rattle.c_token.specs.CTokens.{Word};
 ghost use Rattle.c_tree.specs.Forms.{IsHead, IsIdentifier};
 ghost use Rattle.c_tree.specs.Items.{function_token, head_spelling};
 ghost use Rattle.c_input.specs.Reads.{Finds, ReadsEvery};
@@ -10,7 +10,7 @@ use crate::fixed::static_head;
 use crate::listing::parameters;
 use c_input::{Input, Piece};
 use c_operand::result_type;
-use c_state::Bytes;
+use c_token::Bytes;
 use c_tree::{CHead, CResult, FunctionName, Numbered, Parameter};
 use cy_base::OutOfMemory;
 use sqlite_items::Items;

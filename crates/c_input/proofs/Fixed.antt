@@ -1,6 +1,6 @@
 -- The tokens of the fixed parts of operands.
 use Rattle.std.proofs.Common.{◌≡◌, [], ◌∷◌, refl}
-use Rattle.c_state.specs.CTokens.{sign, word, c_tokens, tokens_from}
+use Rattle.c_token.specs.CTokens.{sign, word, c_tokens, tokens_from}
 use Rattle.c_tree.specs.Names.{text}
 
 pub definition_spelled : text "&cyc_def" ≡ sign "&" ∷ word "cyc_def" ∷ []

@@ -1,7 +1,7 @@
 -- A literal is one word, or stands in brackets.
 use Rattle.std.proofs.Common.{◌≡◌, ℕ, suc, ◌<◌, ◌^◌, ◌⊎◌, inl, inr, Bool, true, false, List, [], ◌∷◌, ◌++◌, Some, refl, sym, ap, ◌∙◌, arith}
 use Rattle.std.specs.Prelude.{pos, negsuc, neg_ℤ, ◌≤ℤ◌, None, decimal, codes, nat_eq, if◌then◌else◌}
-use Rattle.c_state.specs.CTokens.{Word, sign, word, c_tokens, tokens_from}
+use Rattle.c_token.specs.CTokens.{Word, sign, word, c_tokens, tokens_from}
 use Rattle.c_tree.specs.declared.value.Literal.{Literal}
 use Rattle.c_tree.specs.declared.value.Literal.TheVariants as literal
 use Rattle.c_tree.specs.Names.{text}

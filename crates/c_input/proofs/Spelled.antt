@@ -1,6 +1,6 @@
 -- The tokens of types are those of their spellings.
 use Rattle.std.proofs.Common.{◌≡◌, refl}
-use Rattle.c_state.specs.CTokens.{c_tokens, tokens_from}
+use Rattle.c_token.specs.CTokens.{c_tokens, tokens_from}
 use Rattle.c_tree.specs.declared.value.CType.{CType}
 use Rattle.c_tree.specs.declared.value.CType.TheVariants as type
 use Rattle.c_tree.specs.Values.{type_spelling}

@@ -3,7 +3,7 @@ use Rattle.std.proofs.Common.{◌≡◌, ℕ, suc, ◌<◌, ◌^◌, Bool, true,
 use Rattle.std.specs.Prelude.{pos, negsuc, ◌≤ℤ◌, decimal, codes, nat_eq, if◌then◌else◌}
 use Rattle.std.proofs.lemmas.Grind.{common_steps}
 use Rattle.std.proofs.lemmas.Int.{ints}
-use Rattle.c_state.specs.CTokens.{CToken, Word, c_tokens, tokens_from}
+use Rattle.c_token.specs.CTokens.{CToken, Word, c_tokens, tokens_from}
 use Rattle.c_word.specs.Numbers.{Stops}
 use Rattle.c_tree.specs.declared.value.Literal.{Literal}
 use Rattle.c_tree.specs.declared.value.Literal.TheVariants as literal

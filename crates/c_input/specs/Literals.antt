@@ -1,6 +1,6 @@
 -- The digits and the letters of literals (ISO/IEC 9899:2011 6.4.4.1).
 use Rattle.std.specs.Prelude.{ℕ, suc, pos, negsuc, decimal, ⊤, List, [], ◌∷◌, ◌++◌, Option, Some, None, nat_eq, if◌then◌else◌, codes}
-use Rattle.c_state.specs.CTokens.{CToken, Word, sign, word}
+use Rattle.c_token.specs.CTokens.{CToken, Word, sign, word}
 use Rattle.c_tree.specs.declared.value.Literal.{Literal}
 use Rattle.c_tree.specs.declared.value.Literal.TheVariants as literal
 use Rattle.c_tree.specs.Forms.{IsLiteral}

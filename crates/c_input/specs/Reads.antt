@@ -1,6 +1,6 @@
 -- What a function that reads C tokens ensures. The project's own.
 use Rattle.std.specs.Prelude.{◌≡◌, ◌≢◌, ◌||◌, ◌+◌, ◌/◌, ◌%◌, ⊤, nat_lt, nat_eq, ℕ, List, [], ◌∷◌, ◌++◌, map, Bool, true, false, Option, Some, None}
-use Rattle.c_state.specs.CTokens.{CToken, Word, Sign, Str, Character, HeaderName, LineEnd}
+use Rattle.c_token.specs.CTokens.{CToken, Word, Sign, Str, Character, HeaderName, LineEnd}
 use Rattle.c_input.specs.declared.piece.Piece.{Piece}
 use Rattle.c_input.specs.declared.piece.Piece.TheVariants as piece
 

@@ -1,6 +1,6 @@
 -- The tokens of types, told one by one. The project's own profile of C (ISO/IEC 9899:2011 6.7.2).
 use Rattle.std.specs.Prelude.{List, [], ◌∷◌}
-use Rattle.c_state.specs.CTokens.{CToken, word, sign}
+use Rattle.c_token.specs.CTokens.{CToken, word, sign}
 use Rattle.c_tree.specs.declared.value.CType.{CType}
 use Rattle.c_tree.specs.declared.value.CType.TheVariants as type
 

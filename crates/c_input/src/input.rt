@@ -1,5 +1,5 @@
 ghost use Rattle.std.specs.Prelude.{◌≡◌, ◌↔◌, ◌++◌, ◌∷◌, [], List, ℕ, Bool, true, Some, slice_get, IsSomeAnd, IfOk, IfSome, MatchOption, decimal, length};
-ghost use Rattle.c_state.specs.CTokens.{CToken, Word, sign};
+ghost use Rattle.c_token.specs.CTokens.{CToken, Word, sign};
 ghost use Rattle.c_cut.specs.Shown.{item_shown};
 ghost use Rattle.c_tree.specs.Forms.{IsNumber, IsNumbered, IsString, IsVariable};
 ghost use Rattle.c_tree.specs.Names.{variable_token};
@@ -11,7 +11,7 @@ ghost use Rattle.c_input.specs.Reads.{piece_shown, pieces_shown, Reads, ReadsEve
 use crate::piece::{Piece, behind, is_piece};
 use crate::quoted::unquoted;
 use c_cut::Token;
-use c_state::Bytes;
+use c_token::Bytes;
 use c_tree::{Numbered, Variable};
 use cy_base::OutOfMemory;
 use std::alloc::Global;
@@ -25,7 +25,7 @@ pub struct Input<'a> {
 
 impl<'a> Model for Input<'a> {
     ghost use Rattle.std.specs.Prelude.{List};
-    ghost use Rattle.c_state.specs.CTokens.{CToken};
+    ghost use Rattle.c_token.specs.CTokens.{CToken};
     ghost use Rattle.c_cut.specs.Shown.{item_shown};
 
     ghost Value = { List CToken };

@@ -1,6 +1,6 @@
 //! Literals.
 ghost use Rattle.std.specs.Prelude.{◌≡◌, ◌<◌, ◌^◌, ◌++◌, ◌∷◌, [], List, ℕ, Some, IfSome, decimal};
-ghost use Rattle.c_state.specs.CTokens.{CToken, Word, sign};
+ghost use Rattle.c_token.specs.CTokens.{CToken, Word, sign};
 ghost use Rattle.c_tree.specs.declared.value.Literal.{Literal as LiteralValue};
 ghost use Rattle.c_tree.specs.Forms.{IsLiteral};
 ghost use Rattle.c_tree.specs.Values.{literal_spelling};

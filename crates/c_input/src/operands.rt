@@ -1,6 +1,6 @@
 //! Variables, and elements of `args`.
 ghost use Rattle.std.specs.Prelude.{◌≡◌, ◌≢◌, ◌++◌, List, Some, slice_get};
-ghost use Rattle.c_state.specs.CTokens.{CToken, sign};
+ghost use Rattle.c_token.specs.CTokens.{CToken, sign};
 ghost use Rattle.c_tree.specs.declared.value.CValue.{CValue as ValueTree};
 ghost use Rattle.c_tree.specs.Values.{value_spelling};
 ghost use Rattle.c_input.specs.Addresses.{IsStored};

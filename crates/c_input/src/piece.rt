@@ -1,6 +1,6 @@
 //! Fixed tokens.
 ghost use Rattle.std.specs.Prelude.{◌≡◌, ◌≢◌, ◌↔◌, ◌++◌, List, map, MatchOption, true};
-ghost use Rattle.c_state.specs.CTokens.{CToken};
+ghost use Rattle.c_token.specs.CTokens.{CToken};
 ghost use Rattle.c_cut.specs.Shown.{item_shown, token_shown};
 ghost use Rattle.c_input.specs.Reads.{piece_shown, pieces_shown};
 

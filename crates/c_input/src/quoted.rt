@@ -5,7 +5,7 @@ ghost use Rattle.c_tree.specs.Forms.{IsString};
 ghost use Rattle.c_tree.specs.Values.{quoted_byte};
 ghost use Rattle.c_input.specs.Reads.{is_escaped, octal};
 
-use c_state::Bytes;
+use c_token::Bytes;
 use cy_base::OutOfMemory;
 use std::alloc::Global;
 

@@ -1,6 +1,6 @@
 //! Types.
 ghost use Rattle.std.specs.Prelude.{◌≡◌, ◌++◌, ◌∷◌, [], List, ℕ, Some, IfSome, ⊤};
-ghost use Rattle.c_state.specs.CTokens.{CToken, Word, word, sign};
+ghost use Rattle.c_token.specs.CTokens.{CToken, Word, word, sign};
 ghost use Rattle.c_tree.specs.declared.value.CType.{CType as TypeValue};
 ghost use Rattle.c_tree.specs.Values.{type_spelling};
 ghost use Rattle.c_input.specs.Reads.{Finds, ReadsEvery};

@@ -2,7 +2,7 @@
 use Rattle.std.proofs.Common.{◌≡◌, ℕ, List, ◌∷◌, ◌++◌, refl, sym, ap, ◌∙◌}
 use Rattle.std.specs.Prelude.{Bool, true, false, ◌&&◌, codes}
 use Rattle.std.specs.Str.{bytes_eq}
-use Rattle.c_state.specs.CTokens.{CToken, Word, sign, c_tokens, tokens_from}
+use Rattle.c_token.specs.CTokens.{CToken, Word, sign, c_tokens, tokens_from}
 use Rattle.c_tree.specs.declared.item.CFunction.{CFunction}
 use Rattle.c_tree.specs.declared.item.CHead.{CHead}
 use Rattle.c_tree.specs.declared.item.CHead.TheVariants as head

@@ -1,6 +1,6 @@
 -- The last token of an item.
 use Rattle.std.proofs.Common.{◌≡◌, ℕ, suc, ◌-◌, ◌≤◌, List, [], ◌∷◌, ◌++◌, Some, length, get_or, refl, sym, ap, ◌∙◌, arith}
-use Rattle.c_state.specs.CTokens.{CToken}
+use Rattle.c_token.specs.CTokens.{CToken}
 use Rattle.c_cut.specs.declared.token.Token.{Token}
 use Rattle.c_cut.specs.Shown.{item_shown, token_shown}
 use Rattle.c_table.proofs.Steps.{assoc}

@@ -1,7 +1,7 @@
 -- What the first words of tokens open.
 use Rattle.std.proofs.Common.{◌≡◌, ℕ, List, [], ◌∷◌, Some, refl, ap}
 use Rattle.std.specs.Prelude.{slice_get}
-use Rattle.c_state.specs.CTokens.{CToken, Word, Str, Character, Sign, HeaderName, LineEnd, Other}
+use Rattle.c_token.specs.CTokens.{CToken, Word, Str, Character, Sign, HeaderName, LineEnd, Other}
 use Rattle.c_item.specs.declared.kinds.Opening.TheVariants as opening
 use Rattle.c_item.specs.declared.kinds.Plain.TheVariants as plain
 use Rattle.c_item.specs.Words.{lone, opening_at, worded}

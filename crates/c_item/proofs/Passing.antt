@@ -1,7 +1,7 @@
 -- Fixed tokens that are taken in parts.
 use Rattle.std.proofs.Common.{◌≡◌, List, ◌++◌, ap, sym, ◌∙◌}
 use Rattle.std.specs.Prelude.{◌≢◌, Bool, true, false}
-use Rattle.c_state.specs.CTokens.{CToken}
+use Rattle.c_token.specs.CTokens.{CToken}
 use Rattle.c_input.specs.Reads.{Passes}
 use Rattle.c_input.proofs.Rows.{same_left}
 use Rattle.c_table.proofs.Steps.{assoc}

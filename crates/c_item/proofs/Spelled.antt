@@ -2,7 +2,7 @@
 use Rattle.std.proofs.Common.{◌≡◌, suc, List, [], ◌∷◌, ◌++◌, ◌⊎◌, inl, inr, refl, sym, ap, ◌∙◌, length}
 use Rattle.std.specs.Prelude.{Bool, true, false, replicate}
 use Rattle.std.specs.List.{flat_map}
-use Rattle.c_state.specs.CTokens.{CToken, Word, word, sign, c_tokens, tokens_from}
+use Rattle.c_token.specs.CTokens.{CToken, Word, word, sign, c_tokens, tokens_from}
 use Rattle.c_tree.specs.declared.item.CItem.{CItem}
 use Rattle.c_tree.specs.declared.item.CItem.TheVariants as item
 use Rattle.c_tree.specs.declared.item.Slot.{Slot}

@@ -1,7 +1,7 @@
 -- Items that begin with a type: the type, and what stands behind it.
 use Rattle.std.proofs.Common.{◌≡◌, List, [], ◌∷◌, ◌++◌, Some, refl, ap, sym, ◌∙◌}
 use Rattle.std.specs.Prelude.{Bool, true, false, slice_get}
-use Rattle.c_state.specs.CTokens.{CToken, Word, sign}
+use Rattle.c_token.specs.CTokens.{CToken, Word, sign}
 use Rattle.c_tree.specs.declared.item.CItem.{CItem}
 use Rattle.c_tree.specs.declared.item.CItem.TheVariants as item
 use Rattle.c_tree.specs.declared.name.FunctionName.{FunctionName}

@@ -1,7 +1,7 @@
 -- The tokens of items that are wholly fixed, told one by one. The project's own profile of C (ISO/IEC 9899:2011 6.7, 6.9,
 -- 6.10).
 use Rattle.std.specs.Prelude.{⊤, List, [], ◌∷◌, ◌++◌, codes}
-use Rattle.c_state.specs.CTokens.{CToken, Str, Character, HeaderName, LineEnd, word, sign}
+use Rattle.c_token.specs.CTokens.{CToken, Str, Character, HeaderName, LineEnd, word, sign}
 use Rattle.c_tree.specs.declared.item.CItem.{CItem}
 use Rattle.c_tree.specs.declared.item.CItem.TheVariants as item
 

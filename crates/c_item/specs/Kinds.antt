@@ -1,7 +1,7 @@
 -- The items that are no functions: their kinds, forms and tokens without the `static` that may stand before them. The
 -- project's own.
 use Rattle.std.specs.Prelude.{◌≡◌, ⊤, List, [], ◌∷◌, Bool, false, Option, Some, None}
-use Rattle.c_state.specs.CTokens.{CToken}
+use Rattle.c_token.specs.CTokens.{CToken}
 use Rattle.c_tree.specs.declared.item.CItem.{CItem}
 use Rattle.c_tree.specs.declared.item.CItem.TheVariants as item
 use Rattle.c_tree.specs.Forms.{IsFunction}

@@ -1,7 +1,7 @@
 -- The tokens of items that begin with a type, told one by one, without the `static` that may stand before them. The
 -- project's own profile of C (ISO/IEC 9899:2011 6.7).
 use Rattle.std.specs.Prelude.{◌≡◌, List, [], ◌∷◌, ◌++◌, Bool, true, false, Option, Some, None}
-use Rattle.c_state.specs.CTokens.{CToken, Word, word, sign}
+use Rattle.c_token.specs.CTokens.{CToken, Word, word, sign}
 use Rattle.c_tree.specs.declared.item.CItem.{CItem}
 use Rattle.c_tree.specs.declared.item.CItem.TheVariants as item
 use Rattle.c_tree.specs.declared.name.FunctionName.{FunctionName}

@@ -1,7 +1,7 @@
 -- Which kind of item two tokens begin. The project's own.
 use Rattle.std.specs.Prelude.{ℕ, List, ◌∷◌, Bool, nat_eq, slice_index, if◌then◌else◌, codes}
 use Rattle.std.specs.Str.{bytes_eq}
-use Rattle.c_state.specs.CTokens.{CToken, Word}
+use Rattle.c_token.specs.CTokens.{CToken, Word}
 use Rattle.c_item.specs.declared.kinds.Opening.{Opening}
 use Rattle.c_item.specs.declared.kinds.Opening.TheVariants.{Plain, Table, Typed}
 use Rattle.c_item.specs.declared.kinds.Plain.TheVariants as plain

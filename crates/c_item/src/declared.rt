@@ -1,6 +1,6 @@
 //! Items that are no functions.
 ghost use Rattle.std.specs.Prelude.{◌≡◌, ◌++◌, List, Some, IfOk};
-ghost use Rattle.c_state.specs.CTokens.{CToken};
+ghost use Rattle.c_token.specs.CTokens.{CToken};
 ghost use Rattle.c_tree.specs.declared.item.CItem.{CItem as ItemTree};
 ghost use Rattle.c_table.specs.Tables.{item_tokens};
 ghost use Rattle.c_input.specs.Reads.{Finds, ReadsEvery};

@@ -1,6 +1,6 @@
 //! Items that begin with a type.
 ghost use Rattle.std.specs.Prelude.{◌≡◌, ◌++◌, ◌∷◌, [], List, Bool, Some, IfOk, true, false};
-ghost use Rattle.c_state.specs.CTokens.{CToken, Word, sign};
+ghost use Rattle.c_token.specs.CTokens.{CToken, Word, sign};
 ghost use Rattle.c_tree.specs.Forms.{IsFunctionName, IsPlace};
 ghost use Rattle.c_tree.specs.Items.{function_token, types_spelling};
 ghost use Rattle.c_tree.specs.Names.{place_name};

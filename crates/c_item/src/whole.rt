@@ -1,6 +1,6 @@
 //! Whole items.
 ghost use Rattle.std.specs.Prelude.{◌≡◌, ◌↔◌, Some, IfOk, IfSome, true};
-ghost use Rattle.c_state.specs.CTokens.{sign};
+ghost use Rattle.c_token.specs.CTokens.{sign};
 ghost use Rattle.c_cut.specs.Shown.{item_shown};
 ghost use Rattle.c_tree.specs.declared.item.CFunction.{CFunction as FunctionTree};
 ghost use Rattle.c_tree.specs.declared.item.CItem.{CItem as ItemTree};

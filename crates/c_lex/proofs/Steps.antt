@@ -6,7 +6,7 @@ use Rattle.std.specs.Str.{bytes_eq}
 use Rattle.std.proofs.lemmas.Bool.{eq-eqb}
 use Rattle.std.proofs.lemmas.Slice.Eq.{bytes_eq-Decides}
 use Rattle.std.proofs.lemmas.List.{at_drop_more, at_drop_all}
-use Rattle.c_state.specs.CTokens.{CToken, Word, Sign, CLine, Mode, Between, InWord, InSign, InQuotes, AfterBackslash, InHeader, Fresh, goes_on, ends, is_word_byte, is_long_sign, long_signs, step, tokens_from, c_tokens}
+use Rattle.c_token.specs.CTokens.{CToken, Word, Sign, CLine, Mode, Between, InWord, InSign, InQuotes, AfterBackslash, InHeader, Fresh, goes_on, ends, is_word_byte, is_long_sign, long_signs, step, tokens_from, c_tokens}
 
 pub word_goes_on : (line : CLine) (letters : List ℕ) (b : ℕ) → is_word_byte b ≡ true → step (InWord line letters) b ≡ goes_on (InWord line (letters ++ b ∷ []))
 word_goes_on line letters b h = ap (λ (t : Bool). if t then goes_on (InWord line (letters ++ b ∷ [])) else ends (Word letters) line b) h

@@ -1,6 +1,6 @@
 -- What the code's types stand for among the definitions of C tokens.
 use Rattle.std.specs.Prelude.{ℕ, List, slice_range}
-use Rattle.c_state.specs.CTokens as spec
+use Rattle.c_token.specs.CTokens as spec
 use Rattle.c_lex.specs.declared.byte.ByteKind.{ByteKind}
 use Rattle.c_lex.specs.declared.byte.ByteKind.TheVariants as kind
 use Rattle.c_lex.specs.declared.mode.Line.{Line}

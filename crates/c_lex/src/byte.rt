@@ -1,6 +1,6 @@
 //! What a byte is, and which signs are long.
 ghost use Rattle.std.specs.Prelude.{◌≡◌};
-ghost use Rattle.c_state.specs.CTokens.{is_long_sign, is_word_byte, kind_of};
+ghost use Rattle.c_token.specs.CTokens.{is_long_sign, is_word_byte, kind_of};
 ghost use Rattle.c_lex.specs.Shown.{kind_shown};
 
 /// What a byte is between tokens. A byte `Alone` is a sign that no longer sign begins with; `Joining` ones may go on.

@@ -1,13 +1,13 @@
 //! The reading of a text, byte by byte.
 ghost use Rattle.std.specs.Prelude.{◌≡◌, ◌≤◌, ◌<◌, ◌+◌, ◌++◌, ◌∷◌, [], length, slice_index, IfOk, OnOk};
-ghost use Rattle.c_state.specs.CTokens.{Joining, Other, Sign, after, begin, c_tokens, ends, kind_of, line_end, quoted, step};
+ghost use Rattle.c_token.specs.CTokens.{Joining, Other, Sign, after, begin, c_tokens, ends, kind_of, line_end, quoted, step};
 ghost use Rattle.c_cut.specs.Shown.{item_shown, token_shown};
 ghost use Rattle.c_lex.specs.Shown.{line_shown, mode_shown, start_of};
 
 use crate::byte::{self, ByteKind};
 use crate::mode::{Line, Mode};
 use c_cut::Token;
-use c_state::Bytes;
+use c_token::Bytes;
 use cy_base::OutOfMemory;
 use std::alloc::Global;
 

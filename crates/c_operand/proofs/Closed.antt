@@ -1,7 +1,7 @@
 -- What stands in the brackets of a head or a prototype.
 use Rattle.std.proofs.Common.{◌≡◌, List, [], ◌∷◌, ◌++◌, refl, ap, ◌∙◌}
 use Rattle.std.specs.Prelude.{◌≢◌}
-use Rattle.c_state.specs.CTokens.{CToken, word, sign}
+use Rattle.c_token.specs.CTokens.{CToken, word, sign}
 use Rattle.c_tree.specs.declared.value.CType.{CType}
 use Rattle.c_tree.specs.Items.{void_or}
 use Rattle.c_tree.specs.Names.{listed}

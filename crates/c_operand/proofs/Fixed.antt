@@ -1,7 +1,7 @@
 -- The tokens of fixed texts, and that no type begins with `void`.
 use Rattle.std.proofs.Common.{◌≡◌, List, [], ◌∷◌, ◌++◌, refl, sym, ap, ◌∙◌}
 use Rattle.std.specs.Prelude.{◌≢◌}
-use Rattle.c_state.specs.CTokens.{CToken, word, c_tokens, tokens_from}
+use Rattle.c_token.specs.CTokens.{CToken, word, c_tokens, tokens_from}
 use Rattle.c_tree.specs.declared.value.CType.{CType}
 use Rattle.c_tree.specs.declared.value.CType.TheVariants as type
 use Rattle.c_tree.specs.Names.{text}

@@ -6,9 +6,9 @@ use Rattle.std.proofs.lemmas.Int.{ints}
 use Rattle.std.proofs.lemmas.Fmt.{decimal_by_steps}
 use Rattle.std.specs.Char.{is_ascii_digit}
 use Rattle.std.specs.Str.{bytes_eq}
-use Rattle.c_state.specs.CTokens.{CToken, Character, HeaderName, LineEnd, Other, Sign, Str, Word, word, sign, c_tokens, tokens_from}
-use Rattle.c_state.specs.declared.space.Exception.{Exception}
-use Rattle.c_state.specs.declared.space.Exception.TheVariants as exception
+use Rattle.c_token.specs.CTokens.{CToken, Character, HeaderName, LineEnd, Other, Sign, Str, Word, word, sign, c_tokens, tokens_from}
+use Rattle.c_token.specs.declared.exception.Exception.{Exception}
+use Rattle.c_token.specs.declared.exception.Exception.TheVariants as exception
 use Rattle.c_tree.specs.declared.name.FixedParameter.TheVariants as fixed
 use Rattle.c_tree.specs.declared.name.Numbered.{Numbered}
 use Rattle.c_tree.specs.declared.name.Place.TheVariants as place

@@ -2,7 +2,7 @@
 use Rattle.std.proofs.Common.{◌≡◌, Option, Some, None, refl, sym, ap, ◌∙◌, ◌⊎◌, inl, inr}
 use Rattle.std.specs.Prelude.{if◌then◌else◌, codes}
 use Rattle.std.specs.Str.{bytes_eq}
-use Rattle.c_state.specs.CTokens.{CToken, Sign}
+use Rattle.c_token.specs.CTokens.{CToken, Sign}
 use Rattle.c_tree.specs.declared.statement.BinaryOp.{BinaryOp}
 use Rattle.c_tree.specs.declared.statement.BinaryOp.TheVariants as op
 use Rattle.c_tree.specs.Statements.{op_spelling}

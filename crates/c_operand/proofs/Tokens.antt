@@ -2,7 +2,7 @@
 use Rattle.std.proofs.Common.{◌≡◌, ℕ, true, false, List, [], ◌∷◌, refl, subst}
 use Rattle.std.specs.Str.{bytes_eq}
 use Rattle.std.proofs.lemmas.Bool.{eq-eqb}
-use Rattle.c_state.specs.CTokens.{CToken, Word, Sign}
+use Rattle.c_token.specs.CTokens.{CToken, Word, Sign}
 
 abbrev pub letters_of : CToken → List ℕ
 letters_of (Word letters) = letters

@@ -1,7 +1,7 @@
 -- Lists with commas between their items, up to `)`. The project's own.
 use Rattle.std.specs.Prelude.{◌≡◌, List, [], ◌∷◌, ◌++◌, Option, Some}
 use Rattle.std.specs.List.{AllByRecursion}
-use Rattle.c_state.specs.CTokens.{CToken, sign}
+use Rattle.c_token.specs.CTokens.{CToken, sign}
 use Rattle.c_tree.specs.Names.{listed}
 
 -- items in form, and there is one

@@ -1,7 +1,7 @@
 //! Arguments of calls.
 ghost use Rattle.std.specs.Prelude.{◌≡◌, ◌≢◌, ◌++◌, List, Some, IfOk, slice_get};
 ghost use Rattle.std.specs.List.{AllByRecursion};
-ghost use Rattle.c_state.specs.CTokens.{CToken, sign};
+ghost use Rattle.c_token.specs.CTokens.{CToken, sign};
 ghost use Rattle.c_tree.specs.declared.statement.Argument.{Argument as ArgumentTree};
 ghost use Rattle.c_tree.specs.Forms.{IsArgument};
 ghost use Rattle.c_tree.specs.Names.{listed};

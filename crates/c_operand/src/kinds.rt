@@ -1,6 +1,6 @@
 //! Types of results, and lists of types.
 ghost use Rattle.std.specs.Prelude.{◌≡◌, ◌++◌, ◌∷◌, [], List, Some, IfOk, ⊤};
-ghost use Rattle.c_state.specs.CTokens.{CToken, sign};
+ghost use Rattle.c_token.specs.CTokens.{CToken, sign};
 ghost use Rattle.c_tree.specs.declared.value.CType.{CType as TypeValue};
 ghost use Rattle.c_tree.specs.Items.{types_spelling};
 ghost use Rattle.c_tree.specs.Names.{listed};

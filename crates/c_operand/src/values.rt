@@ -1,6 +1,6 @@
 //! Operands.
 ghost use Rattle.std.specs.Prelude.{◌≡◌, ◌≢◌, ◌++◌, List, Some, slice_get};
-ghost use Rattle.c_state.specs.CTokens.{CToken, sign};
+ghost use Rattle.c_token.specs.CTokens.{CToken, sign};
 ghost use Rattle.c_tree.specs.declared.value.CValue.{CValue as ValueTree};
 ghost use Rattle.c_tree.specs.Forms.{IsValue};
 ghost use Rattle.c_tree.specs.Values.{value_spelling};

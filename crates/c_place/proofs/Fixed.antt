@@ -1,6 +1,6 @@
 -- The tokens of the spellings of places, one by one.
 use Rattle.std.proofs.Common.{◌≡◌, refl}
-use Rattle.c_state.specs.CTokens.{c_tokens, tokens_from}
+use Rattle.c_token.specs.CTokens.{c_tokens, tokens_from}
 use Rattle.c_tree.specs.declared.name.Variable.{Variable}
 use Rattle.c_tree.specs.declared.statement.FieldPlace.{FieldPlace}
 use Rattle.c_tree.specs.declared.statement.ViewNumber.{ViewNumber}

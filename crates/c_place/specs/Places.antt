@@ -1,6 +1,6 @@
 -- Places of statements, and their tokens one by one. The project's own profile of C (ISO/IEC 9899:2011).
 use Rattle.std.specs.Prelude.{List, [], ◌∷◌, ◌++◌}
-use Rattle.c_state.specs.CTokens.{CToken, word, sign}
+use Rattle.c_token.specs.CTokens.{CToken, word, sign}
 use Rattle.c_tree.specs.declared.statement.FieldPlace.{FieldPlace}
 use Rattle.c_tree.specs.declared.statement.ViewNumber.{ViewNumber}
 use Rattle.c_tree.specs.declared.statement.ViewNumber.TheVariants as number

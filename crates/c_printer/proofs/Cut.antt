@@ -3,9 +3,9 @@ use Prim.Native.String.{String}
 use Rattle.std.proofs.Common.{◌≡◌, ℕ, zero, suc, ◌+◌, Bool, true, false, ◌&&◌, List, [], ◌∷◌, ◌++◌, map, length, replicate, refl, ap, ◌∙◌, append_assoc, arith, ℤ, pos, negsuc}
 use Rattle.std.specs.Prelude.{Option, Some, None, is_none, unwrap_or, if◌then◌else◌, nat_eq}
 use Rattle.std.specs.List.{flat_map, list_all, AllByRecursion}
-use Rattle.c_state.specs.CTokens.{CToken, Word, word, sign, c_tokens, tokens_from}
-use Rattle.c_state.specs.CReading.{Role, Plain, Parenthesis, Semicolon, Opens, Closes, EndsLine, role_of, ItemPlace, Outside, Inside, item_start, place_after, c_items}
-use Rattle.c_state.proofs.Items.{is_end, is_item_from, cut_item}
+use Rattle.c_token.specs.CTokens.{CToken, Word, word, sign, c_tokens, tokens_from}
+use Rattle.c_token.specs.Cutting.{Role, Plain, Parenthesis, Semicolon, Opens, Closes, EndsLine, role_of, ItemPlace, Outside, Inside, item_start, place_after, c_items}
+use Rattle.c_token.proofs.Cut.{is_end, is_item_from, cut_item}
 use Rattle.c_tree.specs.declared.item.Base.{Base}
 use Rattle.c_tree.specs.declared.item.Base.TheVariants as base
 use Rattle.c_tree.specs.declared.item.CFunction.{CFunction}

@@ -2,9 +2,9 @@
 use Rattle.std.proofs.Common.{◌≡◌, ℕ, ◌+◌, ◌%◌, ◌^◌, ◌<◌, true, List, [], ◌∷◌, length, arith, decimal}
 use Rattle.std.proofs.lemmas.Bool.Decides.{nat_tests}
 use Rattle.std.proofs.lemmas.Fmt.{decimal_by_steps, decimal_nonempty}
-use Rattle.c_state.specs.CTokens.{is_word_byte}
-use Rattle.c_state.specs.CReading.{AreWordBytes}
-use Rattle.c_state.proofs.Tokens.{name_append}
+use Rattle.c_token.specs.CTokens.{is_word_byte}
+use Rattle.c_token.specs.Spelled.{AreWordBytes}
+use Rattle.c_token.proofs.Tokens.{name_append}
 use Rattle.c_writer.specs.Rest.{IsLetters}
 
 digit : (n : ℕ) → n < 10 → is_word_byte (48 + n) ≡ true

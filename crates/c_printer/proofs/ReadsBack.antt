@@ -2,8 +2,8 @@
 use Rattle.std.proofs.Common.{◌≡◌, ℕ, List, sym, subst}
 use Rattle.std.specs.Prelude.{true, Result, Ok, Err, IfOk}
 use Rattle.std.specs.List.{flat_map, AllByRecursion}
-use Rattle.c_state.specs.CTokens.{CToken, c_tokens}
-use Rattle.c_state.specs.CReading.{c_items}
+use Rattle.c_token.specs.CTokens.{CToken, c_tokens}
+use Rattle.c_token.specs.Cutting.{c_items}
 use Rattle.c_tree.specs.declared.item.CItem.{CItem}
 use Rattle.c_tree.specs.Forms.{IsItem}
 use Rattle.c_tree.specs.Items.{item_spelling}

@@ -1,6 +1,6 @@
 -- A list of types or parameters that isn't empty has no `void` in its place.
 use Rattle.std.proofs.Common.{◌≡◌, List, ◌++◌, refl}
-use Rattle.c_state.specs.CTokens.{CToken, c_tokens, tokens_from}
+use Rattle.c_token.specs.CTokens.{CToken, c_tokens, tokens_from}
 use Rattle.c_tree.specs.declared.value.CType.{CType}
 use Rattle.c_tree.specs.declared.value.CType.TheVariants as type
 use Rattle.c_tree.specs.Values.{type_spelling}

@@ -1,7 +1,7 @@
 -- Parts of a list of members.
 use Rattle.std.specs.Prelude.{List, [], ◌∷◌, ◌++◌}
 use Rattle.std.specs.List.{flat_map}
-use Rattle.c_state.specs.CTokens.{CToken, sign}
+use Rattle.c_token.specs.CTokens.{CToken, sign}
 use Rattle.c_tree.specs.declared.item.TypeObject.{TypeObject}
 use Rattle.c_tree.specs.Names.{text, name_token}
 use Rattle.c_tree.specs.Values.{string}

@@ -1,6 +1,6 @@
 -- A row of a table of properties, as one word.
 use Rattle.std.specs.Prelude.{List}
-use Rattle.c_state.specs.CTokens.{CToken}
+use Rattle.c_token.specs.CTokens.{CToken}
 use Rattle.c_tree.specs.declared.item.PropertyRow.{PropertyRow}
 use Rattle.c_tree.specs.Items.{property_spelling}
 

@@ -7,14 +7,14 @@ use crate::mark::{Put, line};
 use c_tree::CItem;
 use c_writer::Writer;
 
-#[tactic(auto, unfolding(c_state::specs::CTokens::c_tokens, c_state::specs::CTokens::tokens_from))]
+#[tactic(auto, unfolding(c_token::specs::CTokens::c_tokens, c_token::specs::CTokens::tokens_from))]
 fn default_letter(out: Writer) -> Put
     ensures { IfOk result (λ new. new ≡ out ++ text "{ if (f == NULL) f = \"B\";") }
 {
     out.text(b"{\n    if (f == NULL) f = \"B\";\n    ")
 }
 
-#[tactic(auto, unfolding(c_state::specs::CTokens::c_tokens, c_state::specs::CTokens::tokens_from))]
+#[tactic(auto, unfolding(c_token::specs::CTokens::c_tokens, c_token::specs::CTokens::tokens_from))]
 fn native_letter(out: Writer) -> Put
     ensures { IfOk result (λ new. new ≡ out ++ text "if (f[0] == '@') f = f + 1;") }
 {

@@ -1,7 +1,7 @@
 //! Functions.
 ghost use Rattle.std.specs.Prelude.{◌≡◌, ◌++◌, ◌∷◌, [], IfOk};
 ghost use Rattle.std.specs.List.{flat_map, AllByRecursion};
-ghost use Rattle.c_state.specs.CTokens.{sign};
+ghost use Rattle.c_token.specs.CTokens.{sign};
 ghost use Rattle.c_tree.specs.Names.{letter_token, variable_token};
 ghost use Rattle.c_tree.specs.Forms.{IsFunction, IsLine};
 ghost use Rattle.c_tree.specs.Items.{declaration_spelling, function_spelling, initial_spelling, line_spelling};
@@ -14,7 +14,7 @@ use crate::value::kind;
 use c_tree::{CFunction, Declaration, InitialValue, Line};
 use c_writer::Writer;
 
-#[tactic(auto, unfolding(c_state::specs::CTokens::c_tokens, c_state::specs::CTokens::tokens_from))]
+#[tactic(auto, unfolding(c_token::specs::CTokens::c_tokens, c_token::specs::CTokens::tokens_from))]
 fn initial(out: Writer, it: InitialValue) -> Put
     ensures { IfOk result (λ new. new ≡ out ++ initial_spelling it) }
 {
@@ -27,7 +27,7 @@ fn initial(out: Writer, it: InitialValue) -> Put
 }
 
 // A blank that belongs to no token, where it looks well.
-#[tactic(auto, unfolding(c_state::specs::CTokens::c_tokens, c_state::specs::CTokens::tokens_from))]
+#[tactic(auto, unfolding(c_token::specs::CTokens::c_tokens, c_token::specs::CTokens::tokens_from))]
 fn indent(out: Writer) -> Put
     ensures { IfOk result (λ new. new ≡ out) }
 {

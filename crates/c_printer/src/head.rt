@@ -1,8 +1,8 @@
 //! Heads of functions, and prototypes.
 ghost use Rattle.std.specs.Prelude.{◌≡◌, ◌++◌, ◌∷◌, [], IfOk};
 ghost use Rattle.std.specs.List.{flat_map};
-ghost use Rattle.c_state.specs.CTokens.{sign};
-ghost use Rattle.c_state.specs.CReading.{AreWordBytes};
+ghost use Rattle.c_token.specs.CTokens.{sign};
+ghost use Rattle.c_token.specs.Spelled.{AreWordBytes};
 ghost use Rattle.c_tree.specs.Names.{listed, text};
 ghost use Rattle.c_tree.specs.Values.{type_spelling};
 ghost use Rattle.c_tree.specs.Forms.{IsHead};

@@ -1,7 +1,7 @@
 //! Items, and files.
 ghost use Rattle.std.specs.Prelude.{◌≡◌, ◌++◌, ◌∷◌, [], IfOk, true};
 ghost use Rattle.std.specs.List.{flat_map, AllByRecursion};
-ghost use Rattle.c_state.specs.CTokens.{Word, c_tokens, sign, word};
+ghost use Rattle.c_token.specs.CTokens.{Word, c_tokens, sign, word};
 ghost use Rattle.c_tree.specs.Names.{name_token, place_name, text};
 ghost use Rattle.c_tree.specs.Values.{result_spelling, type_spelling};
 ghost use Rattle.c_tree.specs.Forms.{IsFile, IsFunctionName, IsItem};
@@ -51,21 +51,21 @@ fn static_place(out: Writer, it: CType, x: Place) -> Put
     place(out, x)?.text(b";")
 }
 
-#[tactic(auto, unfolding(c_tree::specs::Items::item_spelling, c_state::specs::CTokens::c_tokens, c_state::specs::CTokens::tokens_from))]
+#[tactic(auto, unfolding(c_tree::specs::Items::item_spelling, c_token::specs::CTokens::c_tokens, c_token::specs::CTokens::tokens_from))]
 fn define_clean(out: Writer) -> Put
     ensures { IfOk result (λ new. new ≡ out ++ item_spelling CItem.DefineClean) }
 {
     out.directive(b"#define PY_SSIZE_T_CLEAN\n")
 }
 
-#[tactic(auto, unfolding(c_tree::specs::Items::item_spelling, c_state::specs::CTokens::c_tokens, c_state::specs::CTokens::tokens_from))]
+#[tactic(auto, unfolding(c_tree::specs::Items::item_spelling, c_token::specs::CTokens::c_tokens, c_token::specs::CTokens::tokens_from))]
 fn include_python(out: Writer) -> Put
     ensures { IfOk result (λ new. new ≡ out ++ item_spelling CItem.IncludePython) }
 {
     out.directive(b"#include <Python.h>\n")
 }
 
-#[tactic(auto, unfolding(c_tree::specs::Items::item_spelling, c_state::specs::CTokens::c_tokens, c_state::specs::CTokens::tokens_from))]
+#[tactic(auto, unfolding(c_tree::specs::Items::item_spelling, c_token::specs::CTokens::c_tokens, c_token::specs::CTokens::tokens_from))]
 fn include_set(out: Writer) -> Put
     ensures { IfOk result (λ new. new ≡ out ++ item_spelling CItem.IncludeSet) }
 {

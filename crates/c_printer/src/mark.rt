@@ -1,6 +1,6 @@
 //! Signs and words that are the same everywhere, with the blanks that stand around them.
 ghost use Rattle.std.specs.Prelude.{◌≡◌, ◌++◌, ◌∷◌, [], IfOk};
-ghost use Rattle.c_state.specs.CTokens.{sign};
+ghost use Rattle.c_token.specs.CTokens.{sign};
 ghost use Rattle.c_tree.specs.Names.{text};
 
 use c_writer::Writer;
@@ -8,133 +8,133 @@ use std::alloc::AllocError;
 
 pub(crate) type Put = Result<Writer, AllocError>;
 
-#[tactic(auto, unfolding(c_state::specs::CTokens::c_tokens, c_state::specs::CTokens::tokens_from))]
+#[tactic(auto, unfolding(c_token::specs::CTokens::c_tokens, c_token::specs::CTokens::tokens_from))]
 pub(crate) fn equals(out: Writer) -> Put
     ensures { IfOk result (λ new. new ≡ out ++ sign "=" ∷ []) }
 {
     out.text(b" = ")
 }
 
-#[tactic(auto, unfolding(c_state::specs::CTokens::c_tokens, c_state::specs::CTokens::tokens_from))]
+#[tactic(auto, unfolding(c_token::specs::CTokens::c_tokens, c_token::specs::CTokens::tokens_from))]
 pub(crate) fn semicolon(out: Writer) -> Put
     ensures { IfOk result (λ new. new ≡ out ++ sign ";" ∷ []) }
 {
     out.text(b";")
 }
 
-#[tactic(auto, unfolding(c_state::specs::CTokens::c_tokens, c_state::specs::CTokens::tokens_from))]
+#[tactic(auto, unfolding(c_token::specs::CTokens::c_tokens, c_token::specs::CTokens::tokens_from))]
 pub(crate) fn comma(out: Writer) -> Put
     ensures { IfOk result (λ new. new ≡ out ++ sign "," ∷ []) }
 {
     out.text(b", ")
 }
 
-#[tactic(auto, unfolding(c_state::specs::CTokens::c_tokens, c_state::specs::CTokens::tokens_from))]
+#[tactic(auto, unfolding(c_token::specs::CTokens::c_tokens, c_token::specs::CTokens::tokens_from))]
 pub(crate) fn open(out: Writer) -> Put
     ensures { IfOk result (λ new. new ≡ out ++ sign "(" ∷ []) }
 {
     out.text(b"(")
 }
 
-#[tactic(auto, unfolding(c_state::specs::CTokens::c_tokens, c_state::specs::CTokens::tokens_from))]
+#[tactic(auto, unfolding(c_token::specs::CTokens::c_tokens, c_token::specs::CTokens::tokens_from))]
 pub(crate) fn close(out: Writer) -> Put
     ensures { IfOk result (λ new. new ≡ out ++ sign ")" ∷ []) }
 {
     out.text(b")")
 }
 
-#[tactic(auto, unfolding(c_state::specs::CTokens::c_tokens, c_state::specs::CTokens::tokens_from))]
+#[tactic(auto, unfolding(c_token::specs::CTokens::c_tokens, c_token::specs::CTokens::tokens_from))]
 pub(crate) fn open_bracket(out: Writer) -> Put
     ensures { IfOk result (λ new. new ≡ out ++ sign "[" ∷ []) }
 {
     out.text(b"[")
 }
 
-#[tactic(auto, unfolding(c_state::specs::CTokens::c_tokens, c_state::specs::CTokens::tokens_from))]
+#[tactic(auto, unfolding(c_token::specs::CTokens::c_tokens, c_token::specs::CTokens::tokens_from))]
 pub(crate) fn close_bracket(out: Writer) -> Put
     ensures { IfOk result (λ new. new ≡ out ++ sign "]" ∷ []) }
 {
     out.text(b"]")
 }
 
-#[tactic(auto, unfolding(c_state::specs::CTokens::c_tokens, c_state::specs::CTokens::tokens_from))]
+#[tactic(auto, unfolding(c_token::specs::CTokens::c_tokens, c_token::specs::CTokens::tokens_from))]
 pub(crate) fn open_brace(out: Writer) -> Put
     ensures { IfOk result (λ new. new ≡ out ++ sign "{" ∷ []) }
 {
     out.text(b"{")
 }
 
-#[tactic(auto, unfolding(c_state::specs::CTokens::c_tokens, c_state::specs::CTokens::tokens_from))]
+#[tactic(auto, unfolding(c_token::specs::CTokens::c_tokens, c_token::specs::CTokens::tokens_from))]
 pub(crate) fn close_brace(out: Writer) -> Put
     ensures { IfOk result (λ new. new ≡ out ++ sign "}" ∷ []) }
 {
     out.text(b"}")
 }
 
-#[tactic(auto, unfolding(c_state::specs::CTokens::c_tokens, c_state::specs::CTokens::tokens_from))]
+#[tactic(auto, unfolding(c_token::specs::CTokens::c_tokens, c_token::specs::CTokens::tokens_from))]
 pub(crate) fn tilde(out: Writer) -> Put
     ensures { IfOk result (λ new. new ≡ out ++ sign "~" ∷ []) }
 {
     out.text(b"~")
 }
 
-#[tactic(auto, unfolding(c_state::specs::CTokens::c_tokens, c_state::specs::CTokens::tokens_from))]
+#[tactic(auto, unfolding(c_token::specs::CTokens::c_tokens, c_token::specs::CTokens::tokens_from))]
 pub(crate) fn minus(out: Writer) -> Put
     ensures { IfOk result (λ new. new ≡ out ++ sign "-" ∷ []) }
 {
     out.text(b"-")
 }
 
-#[tactic(auto, unfolding(c_state::specs::CTokens::c_tokens, c_state::specs::CTokens::tokens_from))]
+#[tactic(auto, unfolding(c_token::specs::CTokens::c_tokens, c_token::specs::CTokens::tokens_from))]
 pub(crate) fn ampersand(out: Writer) -> Put
     ensures { IfOk result (λ new. new ≡ out ++ sign "&" ∷ []) }
 {
     out.text(b"&")
 }
 
-#[tactic(auto, unfolding(c_state::specs::CTokens::c_tokens, c_state::specs::CTokens::tokens_from))]
+#[tactic(auto, unfolding(c_token::specs::CTokens::c_tokens, c_token::specs::CTokens::tokens_from))]
 pub(crate) fn dot(out: Writer) -> Put
     ensures { IfOk result (λ new. new ≡ out ++ sign "." ∷ []) }
 {
     out.text(b".")
 }
 
-#[tactic(auto, unfolding(c_state::specs::CTokens::c_tokens, c_state::specs::CTokens::tokens_from))]
+#[tactic(auto, unfolding(c_token::specs::CTokens::c_tokens, c_token::specs::CTokens::tokens_from))]
 pub(crate) fn colon(out: Writer) -> Put
     ensures { IfOk result (λ new. new ≡ out ++ sign ":" ∷ []) }
 {
     out.text(b":")
 }
 
-#[tactic(auto, unfolding(c_state::specs::CTokens::c_tokens, c_state::specs::CTokens::tokens_from))]
+#[tactic(auto, unfolding(c_token::specs::CTokens::c_tokens, c_token::specs::CTokens::tokens_from))]
 pub(crate) fn member_end(out: Writer) -> Put
     ensures { IfOk result (λ new. new ≡ out ++ sign ";" ∷ []) }
 {
     out.text(b"; ")
 }
 
-#[tactic(auto, unfolding(c_state::specs::CTokens::c_tokens, c_state::specs::CTokens::tokens_from))]
+#[tactic(auto, unfolding(c_token::specs::CTokens::c_tokens, c_token::specs::CTokens::tokens_from))]
 pub(crate) fn open_apart(out: Writer) -> Put
     ensures { IfOk result (λ new. new ≡ out ++ sign "{" ∷ []) }
 {
     out.text(b" { ")
 }
 
-#[tactic(auto, unfolding(c_state::specs::CTokens::c_tokens, c_state::specs::CTokens::tokens_from))]
+#[tactic(auto, unfolding(c_token::specs::CTokens::c_tokens, c_token::specs::CTokens::tokens_from))]
 pub(crate) fn open_inner(out: Writer) -> Put
     ensures { IfOk result (λ new. new ≡ out ++ sign "{" ∷ []) }
 {
     out.text(b"{ ")
 }
 
-#[tactic(auto, unfolding(c_state::specs::CTokens::c_tokens, c_state::specs::CTokens::tokens_from))]
+#[tactic(auto, unfolding(c_token::specs::CTokens::c_tokens, c_token::specs::CTokens::tokens_from))]
 pub(crate) fn close_inner(out: Writer) -> Put
     ensures { IfOk result (λ new. new ≡ out ++ sign "}" ∷ []) }
 {
     out.text(b" }")
 }
 
-#[tactic(auto, unfolding(c_state::specs::CTokens::c_tokens, c_state::specs::CTokens::tokens_from))]
+#[tactic(auto, unfolding(c_token::specs::CTokens::c_tokens, c_token::specs::CTokens::tokens_from))]
 pub(crate) fn ends_here(out: Writer) -> Put
     ensures { IfOk result (λ new. new ≡ out ++ text "};") }
 {
@@ -142,7 +142,7 @@ pub(crate) fn ends_here(out: Writer) -> Put
 }
 
 /// A comma, and a line further in.
-#[tactic(auto, unfolding(c_state::specs::CTokens::c_tokens, c_state::specs::CTokens::tokens_from))]
+#[tactic(auto, unfolding(c_token::specs::CTokens::c_tokens, c_token::specs::CTokens::tokens_from))]
 pub(crate) fn comma_line(out: Writer) -> Put
     ensures { IfOk result (λ new. new ≡ out ++ sign "," ∷ []) }
 {
@@ -156,21 +156,21 @@ pub(crate) fn line(out: Writer) -> Put
     out.fresh()
 }
 
-#[tactic(auto, unfolding(c_state::specs::CTokens::c_tokens, c_state::specs::CTokens::tokens_from))]
+#[tactic(auto, unfolding(c_token::specs::CTokens::c_tokens, c_token::specs::CTokens::tokens_from))]
 pub(crate) fn gives(out: Writer) -> Put
     ensures { IfOk result (λ new. new ≡ out ++ text "=") }
 {
     out.text(b" = ")
 }
 
-#[tactic(auto, unfolding(c_state::specs::CTokens::c_tokens, c_state::specs::CTokens::tokens_from))]
+#[tactic(auto, unfolding(c_token::specs::CTokens::c_tokens, c_token::specs::CTokens::tokens_from))]
 pub(crate) fn points(out: Writer) -> Put
     ensures { IfOk result (λ new. new ≡ out ++ text "= &") }
 {
     out.text(b" = &")
 }
 
-#[tactic(auto, unfolding(c_state::specs::CTokens::c_tokens, c_state::specs::CTokens::tokens_from))]
+#[tactic(auto, unfolding(c_token::specs::CTokens::c_tokens, c_token::specs::CTokens::tokens_from))]
 pub(crate) fn ends(out: Writer) -> Put
     ensures { IfOk result (λ new. new ≡ out ++ text "};") }
 {
@@ -178,14 +178,14 @@ pub(crate) fn ends(out: Writer) -> Put
 }
 
 /// Begins a line further in.
-#[tactic(auto, unfolding(c_state::specs::CTokens::c_tokens, c_state::specs::CTokens::tokens_from))]
+#[tactic(auto, unfolding(c_token::specs::CTokens::c_tokens, c_token::specs::CTokens::tokens_from))]
 pub(crate) fn indent(out: Writer) -> Put
     ensures { IfOk result (λ new. new ≡ out ++ []) }
 {
     out.fresh()?.text(b"    ")
 }
 
-#[tactic(auto, unfolding(c_state::specs::CTokens::c_tokens, c_state::specs::CTokens::tokens_from))]
+#[tactic(auto, unfolding(c_token::specs::CTokens::c_tokens, c_token::specs::CTokens::tokens_from))]
 pub(crate) fn blank(out: Writer) -> Put
     ensures { IfOk result (λ new. new ≡ out ++ []) }
 {

@@ -1,6 +1,6 @@
 //! Names.
 ghost use Rattle.std.specs.Prelude.{◌≡◌, ◌++◌, ◌∷◌, [], codes, decimal, IfOk};
-ghost use Rattle.c_state.specs.CTokens.{Word};
+ghost use Rattle.c_token.specs.CTokens.{Word};
 ghost use Rattle.c_tree.specs.Names.{fixed_name, function_name, methods_name, of_field, place_name, variable_token};
 ghost use Rattle.c_tree.specs.Forms.{IsFunctionName};
 ghost use Rattle.c_writer.specs.Rest.{IsLetters};

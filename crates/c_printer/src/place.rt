@@ -1,7 +1,7 @@
 //! Parts of statements: calls, and the places that they read and write.
 ghost use Rattle.std.specs.Prelude.{◌≡◌, ◌++◌, ◌∷◌, [], Some, None, IfOk};
 ghost use Rattle.std.specs.List.{flat_map};
-ghost use Rattle.c_state.specs.CTokens.{Word, sign};
+ghost use Rattle.c_token.specs.CTokens.{Word, sign};
 ghost use Rattle.c_tree.specs.Names.{listed, text};
 ghost use Rattle.c_tree.specs.Values.{value_spelling};
 ghost use Rattle.c_tree.specs.Forms.{IsCallee};

@@ -1,6 +1,6 @@
 //! Statements.
 ghost use Rattle.std.specs.Prelude.{◌≡◌, ◌++◌, ◌∷◌, [], Some, None, IfOk};
-ghost use Rattle.c_state.specs.CTokens.{Word, sign, word};
+ghost use Rattle.c_token.specs.CTokens.{Word, sign, word};
 ghost use Rattle.c_tree.specs.Names.{letter_token, name_token, text, variable_token};
 ghost use Rattle.c_tree.specs.Values.{string, type_spelling, value_spelling};
 ghost use Rattle.c_tree.specs.Forms.{IsCallee, IsStatement};

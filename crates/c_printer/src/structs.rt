@@ -1,7 +1,7 @@
 //! Structs of instances and of method tables, and the tables.
 ghost use Rattle.std.specs.Prelude.{◌≡◌, ◌++◌, ◌∷◌, [], codes, decimal, length, replicate, IfOk};
 ghost use Rattle.std.specs.List.{flat_map, AllByRecursion};
-ghost use Rattle.c_state.specs.CTokens.{Word, sign, word};
+ghost use Rattle.c_token.specs.CTokens.{Word, sign, word};
 ghost use Rattle.c_tree.specs.Names.{letter_token, name_token, text};
 ghost use Rattle.c_tree.specs.Values.{result_spelling, type_spelling};
 ghost use Rattle.c_tree.specs.Forms.{IsFunctionName, IsNumber};
@@ -16,21 +16,21 @@ use c_tree::{Base, CResult, CType, FunctionName, Numbered, Slot, StructTable, Ta
 use c_writer::Writer;
 use sqlite_items::Items;
 
-#[tactic(auto, unfolding(c_state::specs::CTokens::c_tokens, c_state::specs::CTokens::tokens_from))]
+#[tactic(auto, unfolding(c_token::specs::CTokens::c_tokens, c_token::specs::CTokens::tokens_from))]
 fn base_end(out: Writer) -> Put
     ensures { IfOk result (λ new. new ≡ out ++ text "b;") }
 {
     out.text(b" b; ")
 }
 
-#[tactic(auto, unfolding(c_state::specs::CTokens::c_tokens, c_state::specs::CTokens::tokens_from))]
+#[tactic(auto, unfolding(c_token::specs::CTokens::c_tokens, c_token::specs::CTokens::tokens_from))]
 fn root_base(out: Writer) -> Put
     ensures { IfOk result (λ new. new ≡ out ++ text "struct cyc_root b;") }
 {
     out.text(b"struct cyc_root b; ")
 }
 
-#[tactic(auto, unfolding(c_state::specs::CTokens::c_tokens, c_state::specs::CTokens::tokens_from))]
+#[tactic(auto, unfolding(c_token::specs::CTokens::c_tokens, c_token::specs::CTokens::tokens_from))]
 fn name_base(out: Writer) -> Put
     ensures { IfOk result (λ new. new ≡ out ++ text "const char *name;") }
 {
@@ -92,7 +92,7 @@ fn given_apart(out: Writer, it: CResult) -> Put
     }
 }
 
-#[tactic(auto, unfolding(c_state::specs::CTokens::c_tokens, c_state::specs::CTokens::tokens_from))]
+#[tactic(auto, unfolding(c_token::specs::CTokens::c_tokens, c_token::specs::CTokens::tokens_from))]
 fn slot_end(out: Writer) -> Put
     ensures { IfOk result (λ new. new ≡ out ++ text ";") }
 {

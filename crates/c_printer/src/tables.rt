@@ -1,7 +1,7 @@
 //! Tables of the Python/C API.
 ghost use Rattle.std.specs.Prelude.{◌≡◌, ◌++◌, ◌∷◌, [], codes, decimal, Some, None, IfOk};
 ghost use Rattle.std.specs.List.{flat_map, AllByRecursion};
-ghost use Rattle.c_state.specs.CTokens.{Word, sign, word};
+ghost use Rattle.c_token.specs.CTokens.{Word, sign, word};
 ghost use Rattle.c_tree.specs.Names.{listed, methods_name, name_token, of_field, text};
 ghost use Rattle.c_tree.specs.Values.{string};
 ghost use Rattle.c_tree.specs.Items.{member, members, method_spelling, property_spelling, setter_or_null, static_or, type_members};
@@ -70,14 +70,14 @@ fn property_rows(out: Writer, all: &[PropertyRow]) -> Put
     Ok(out)
 }
 
-#[tactic(auto, unfolding(c_state::specs::CTokens::c_tokens, c_state::specs::CTokens::tokens_from))]
+#[tactic(auto, unfolding(c_token::specs::CTokens::c_tokens, c_token::specs::CTokens::tokens_from))]
 fn last_method(out: Writer) -> Put
     ensures { IfOk result (λ new. new ≡ out ++ text "{NULL, NULL, 0, NULL} };") }
 {
     out.text(b"{NULL, NULL, 0, NULL}\n};")
 }
 
-#[tactic(auto, unfolding(c_state::specs::CTokens::c_tokens, c_state::specs::CTokens::tokens_from))]
+#[tactic(auto, unfolding(c_token::specs::CTokens::c_tokens, c_token::specs::CTokens::tokens_from))]
 fn last_property(out: Writer) -> Put
     ensures { IfOk result (λ new. new ≡ out ++ text "{NULL, NULL, NULL, NULL, NULL} };") }
 {

@@ -1,6 +1,6 @@
 //! Tables with named members, and type objects.
 ghost use Rattle.std.specs.Prelude.{◌≡◌, ◌++◌, ◌∷◌, [], Some, None, IfOk};
-ghost use Rattle.c_state.specs.CTokens.{sign, word};
+ghost use Rattle.c_token.specs.CTokens.{sign, word};
 ghost use Rattle.c_tree.specs.Names.{listed, name_token, text};
 ghost use Rattle.c_tree.specs.Values.{string};
 ghost use Rattle.c_tree.specs.Items.{member, members, static_or, type_members};
@@ -240,7 +240,7 @@ pub(crate) fn mapping_table(
     ends_here(mapping_members(out, first, second)?)
 }
 
-#[tactic(auto, unfolding(c_state::specs::CTokens::c_tokens, c_state::specs::CTokens::tokens_from))]
+#[tactic(auto, unfolding(c_token::specs::CTokens::c_tokens, c_token::specs::CTokens::tokens_from))]
 fn name_start(out: Writer) -> Put
     ensures { IfOk result (λ new. new ≡ out ++ text ".tp_name =") }
 {
@@ -288,7 +288,7 @@ fn all_members(out: Writer, it: &TypeObject) -> Put
     tables(functions(three(out, it)?, it)?, it)
 }
 
-#[tactic(auto, unfolding(c_state::specs::CTokens::c_tokens, c_state::specs::CTokens::tokens_from))]
+#[tactic(auto, unfolding(c_token::specs::CTokens::c_tokens, c_token::specs::CTokens::tokens_from))]
 fn type_start(out: Writer) -> Put
     ensures { IfOk result (λ new. new ≡ out ++ text "= { PyVarObject_HEAD_INIT(NULL, 0)") }
 {

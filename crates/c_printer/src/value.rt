@@ -1,13 +1,13 @@
 //! Types and operands.
 ghost use Rattle.std.specs.Prelude.{◌≡◌, ◌++◌, ◌∷◌, [], ℕ, ◌<◌, ◌≤◌, suc, negsuc, decimal, codes, IfOk};
-ghost use Rattle.c_state.specs.CTokens.{Word};
-ghost use Rattle.c_state.specs.CReading.{AreWordBytes};
+ghost use Rattle.c_token.specs.CTokens.{Word};
+ghost use Rattle.c_token.specs.Spelled.{AreWordBytes};
 ghost use Rattle.c_tree.specs.Values.{type_spelling, result_spelling, exception_name, int_spelling, literal_spelling, long_spelling, negative, value_spelling};
 ghost use Rattle.c_tree.specs.Statements.{index};
 
 use crate::mark::{Put, ampersand, close, close_bracket, minus, open, open_bracket};
 use crate::name::{numbered, variable};
-use c_state::Exception;
+use c_token::Exception;
 use c_tree::{CResult, CType, CValue, Literal, Numbered};
 use c_writer::Writer;
 use itoa::Buffer;

@@ -1,8 +1,8 @@
 -- A text has no more tokens than bytes and one, and no more items than tokens.
 use Rattle.std.proofs.Common.{ℕ, suc, ◌+◌, ◌≤◌, List, [], ◌∷◌, ◌++◌, length, arith, length-append}
 use Rattle.std.specs.Prelude.{Bool, true, false, if◌then◌else◌, nat_eq, is_none, unwrap_or}
-use Rattle.c_state.specs.CTokens.{CToken, CLine, Fresh, Text, Hash, Include, Directive, ByteKind, LineFeed, Blank, WordByte, Quote, Alone, Joining, Neither, Mode, Between, InWord, InSign, InQuotes, AfterBackslash, InHeader, Step, Word, Sign, Other, after, begin, ends, gives, goes_on, kind_of, is_word_byte, is_long_sign, quoted, sign, step, tokens_from, c_tokens}
-use Rattle.c_state.specs.CReading.{ItemPlace, item_start, items_from, c_items, place_after, role_of, with_token}
+use Rattle.c_token.specs.CTokens.{CToken, CLine, Fresh, Text, Hash, Include, Directive, ByteKind, LineFeed, Blank, WordByte, Quote, Alone, Joining, Neither, Mode, Between, InWord, InSign, InQuotes, AfterBackslash, InHeader, Step, Word, Sign, Other, after, begin, ends, gives, goes_on, kind_of, is_word_byte, is_long_sign, quoted, sign, step, tokens_from, c_tokens}
+use Rattle.c_token.specs.Cutting.{ItemPlace, item_start, items_from, c_items, place_after, role_of, with_token}
 
 -- how many tokens have begun
 abbrev begun : Mode → ℕ

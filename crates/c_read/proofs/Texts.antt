@@ -3,8 +3,8 @@ use Rattle.std.proofs.Common.{◌≡◌, ℕ, ◌<◌, ◌≤◌, ◌^◌, List,
 use Rattle.std.specs.Prelude.{Bool, true, false, Result, Ok, Err}
 use Rattle.std.specs.List.{AllByRecursion}
 use Rattle.std.proofs.lemmas.List.{length-map}
-use Rattle.c_state.specs.CTokens.{CToken, c_tokens}
-use Rattle.c_state.specs.CReading.{c_items}
+use Rattle.c_token.specs.CTokens.{CToken, c_tokens}
+use Rattle.c_token.specs.Cutting.{c_items}
 use Rattle.c_cut.specs.declared.token.Token.{Token}
 use Rattle.c_cut.specs.Shown.{item_shown, items_shown}
 use Rattle.c_tree.specs.declared.item.CItem.{CItem}

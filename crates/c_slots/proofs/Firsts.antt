@@ -3,7 +3,7 @@ use Rattle.std.proofs.Common.{◌≡◌, ℕ, zero, suc, List, [], ◌∷◌, �
 use Rattle.std.specs.Prelude.{slice_get, replicate}
 use Rattle.std.specs.List.{flat_map}
 use Rattle.std.proofs.lemmas.List.{append_assoc}
-use Rattle.c_state.specs.CTokens.{CToken, word, sign, c_tokens, tokens_from}
+use Rattle.c_token.specs.CTokens.{CToken, word, sign, c_tokens, tokens_from}
 use Rattle.c_tree.specs.declared.item.Slot.{Slot}
 use Rattle.c_tree.specs.declared.item.StructTable.{StructTable}
 use Rattle.c_tree.specs.declared.name.FunctionName.{FunctionName}

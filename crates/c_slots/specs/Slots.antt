@@ -1,7 +1,7 @@
 -- Structs of method tables, told token by token. The project's own profile of C (ISO/IEC 9899:2011 6.7.2.1, 6.7.6.3).
 use Rattle.std.specs.Prelude.{◌≡◌, ℕ, suc, List, [], ◌∷◌, ◌++◌, Bool, true, ◌&&◌, nat_eq, slice_get, Option, Some}
 use Rattle.std.specs.List.{flat_map, AllByRecursion}
-use Rattle.c_state.specs.CTokens.{CToken, word, sign}
+use Rattle.c_token.specs.CTokens.{CToken, word, sign}
 use Rattle.c_tree.specs.declared.item.Slot.{Slot}
 use Rattle.c_tree.specs.declared.item.TableBase.{TableBase}
 use Rattle.c_tree.specs.declared.item.TableBase.TheVariants as base

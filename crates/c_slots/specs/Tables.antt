@@ -1,7 +1,7 @@
 -- Method tables, told token by token. The project's own profile of C (ISO/IEC 9899:2011 6.7.9).
 use Rattle.std.specs.Prelude.{◌≡◌, ◌≢◌, ℕ, suc, List, [], ◌∷◌, ◌++◌, length, replicate, slice_get, Option, Some}
 use Rattle.std.specs.List.{flat_map, AllByRecursion}
-use Rattle.c_state.specs.CTokens.{CToken, word, sign}
+use Rattle.c_token.specs.CTokens.{CToken, word, sign}
 use Rattle.c_tree.specs.declared.item.StructTable.{StructTable}
 use Rattle.c_tree.specs.declared.name.FunctionName.{FunctionName}
 use Rattle.c_tree.specs.Forms.{IsFunctionName, IsNumbered, IsString}

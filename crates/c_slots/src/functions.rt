@@ -1,7 +1,7 @@
 //! Functions in method tables.
 ghost use Rattle.std.specs.Prelude.{◌≡◌, ◌∷◌, [], List, Some, IfOk};
 ghost use Rattle.std.specs.List.{flat_map, AllByRecursion};
-ghost use Rattle.c_state.specs.CTokens.{CToken};
+ghost use Rattle.c_token.specs.CTokens.{CToken};
 ghost use Rattle.c_input.specs.Reads.{Finds, ReadsEvery};
 ghost use Rattle.c_slots.specs.Slots.{Closes};
 ghost use Rattle.c_slots.specs.Tables.{behind_comma, layer_tokens, AreFunctions, EndsTable, ReadsFunctions, ReadsLayer, ReadsLayers};

@@ -5,7 +5,7 @@ ghost use Rattle.c_slots.specs.Tables.{method_table_tokens, table_head_tokens, v
 
 use crate::functions::{functions_behind, layers};
 use c_input::{Input, Piece};
-use c_state::Bytes;
+use c_token::Bytes;
 use c_tree::{FunctionName, Numbered, StructTable};
 use cy_base::OutOfMemory;
 use sqlite_items::Items;

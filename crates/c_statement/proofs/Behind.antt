@@ -3,7 +3,7 @@ use Rattle.std.proofs.Common.{◌≡◌, ◌⊎◌, inl, inr, ℕ, List, [], ◌
 use Rattle.std.proofs.lemmas.List.{append_assoc}
 use Rattle.std.specs.Prelude.{◌≢◌, codes, slice_get}
 use Rattle.std.proofs.lemmas.Bool.{false≢true}
-use Rattle.c_state.specs.CTokens.{CToken, Word, sign, word, c_tokens, tokens_from}
+use Rattle.c_token.specs.CTokens.{CToken, Word, sign, word, c_tokens, tokens_from}
 use Rattle.c_tree.specs.declared.statement.BinaryOp.{BinaryOp}
 use Rattle.c_tree.specs.declared.statement.BinaryOp.TheVariants as op
 use Rattle.c_tree.specs.declared.value.CType.{CType}

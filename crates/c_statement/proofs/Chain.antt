@@ -3,7 +3,7 @@ use Rattle.std.proofs.Common.{◌≡◌, List, ◌∷◌, ◌++◌, Bool, true, 
 use Rattle.std.specs.Prelude.{None, Option, nat_eq}
 use Rattle.std.proofs.lemmas.Bool.{false≢true}
 use Rattle.std.proofs.lemmas.List.{append_assoc}
-use Rattle.c_state.specs.CTokens.{CToken, sign, word, c_tokens, tokens_from}
+use Rattle.c_token.specs.CTokens.{CToken, sign, word, c_tokens, tokens_from}
 use Rattle.c_tree.specs.declared.statement.ViewNumber.{ViewNumber}
 use Rattle.c_tree.specs.declared.statement.ViewNumber.TheVariants as number
 use Rattle.c_tree.specs.declared.name.Variable.{Variable}

@@ -5,7 +5,7 @@ use Rattle.std.proofs.Common.{Result, Ok, Err}
 use Rattle.c_input.specs.Reads.{ReadsEvery}
 use Rattle.std.specs.List.{flat_map}
 use Rattle.std.proofs.lemmas.List.{append_assoc}
-use Rattle.c_state.specs.CTokens.{CToken, Word, sign, c_tokens, tokens_from}
+use Rattle.c_token.specs.CTokens.{CToken, Word, sign, c_tokens, tokens_from}
 use Rattle.c_tree.specs.declared.statement.Argument.{Argument}
 use Rattle.c_tree.specs.declared.statement.Argument.TheVariants as argument
 use Rattle.c_tree.specs.declared.statement.BinaryOp.{BinaryOp}

@@ -1,6 +1,6 @@
 -- Statements that assign: a variable, and what stands behind `x =`.
 use Rattle.std.proofs.Common.{◌≡◌, ◌∷◌, ◌++◌, Some, refl}
-use Rattle.c_state.specs.CTokens.{sign}
+use Rattle.c_token.specs.CTokens.{sign}
 use Rattle.c_tree.specs.declared.name.Variable.{Variable}
 use Rattle.c_tree.specs.declared.statement.CStmt.{CStmt}
 use Rattle.c_tree.specs.declared.statement.CStmt.TheVariants as stmt

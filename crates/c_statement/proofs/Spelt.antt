@@ -4,7 +4,7 @@ use Rattle.std.specs.Prelude.{IfOk, Option}
 use Rattle.c_input.specs.Reads.{Finds, ReadsEvery}
 use Rattle.c_tree.specs.Forms.{IsStatement}
 use Rattle.std.proofs.lemmas.List.{append_assoc}
-use Rattle.c_state.specs.CTokens.{CToken, c_tokens, tokens_from}
+use Rattle.c_token.specs.CTokens.{CToken, c_tokens, tokens_from}
 use Rattle.c_tree.specs.declared.statement.CStmt.{CStmt}
 use Rattle.c_tree.specs.declared.statement.CStmt.TheVariants as stmt
 use Rattle.c_tree.specs.declared.statement.CTest.TheVariants as test

@@ -3,7 +3,7 @@ use Rattle.std.proofs.Common.{◌≡◌, ◌⊎◌, inl, inr, ℕ, List, [], ◌
 use Rattle.std.specs.Prelude.{codes, ◌&&◌, ◌||◌, if◌then◌else◌, IfOk, Option}
 use Rattle.std.specs.List.{list_any, AllByRecursion}
 use Rattle.std.specs.Str.{bytes_eq}
-use Rattle.c_state.specs.CTokens.{CToken, Word, sign, c_tokens, tokens_from}
+use Rattle.c_token.specs.CTokens.{CToken, Word, sign, c_tokens, tokens_from}
 use Rattle.c_tree.specs.declared.name.FixedParameter.TheVariants as fixed
 use Rattle.c_tree.specs.declared.name.FunctionName.TheVariants as function
 use Rattle.c_tree.specs.declared.name.Place.TheVariants as global

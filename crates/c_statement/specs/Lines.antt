@@ -1,7 +1,7 @@
 -- Lines of a function. The project's own profile of C (ISO/IEC 9899:2011 6.8.1, 6.9.1).
 use Rattle.std.specs.Prelude.{◌≡◌, List, [], ◌∷◌, Bool, true, false, Some, slice_get}
 use Rattle.std.specs.List.{AllByRecursion}
-use Rattle.c_state.specs.CTokens.{CToken, sign}
+use Rattle.c_token.specs.CTokens.{CToken, sign}
 use Rattle.c_tree.specs.declared.item.Line.{Line}
 use Rattle.c_tree.specs.declared.item.Line.TheVariants as line
 use Rattle.c_tree.specs.Forms.{IsLine, IsNumber, LabelsStand}

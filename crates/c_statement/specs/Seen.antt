@@ -2,7 +2,7 @@
 use Prim.Native.String.{String}
 use Rattle.std.specs.Prelude.{ℕ, List, Bool, false, Option, Some, slice_get, codes}
 use Rattle.std.specs.Str.{bytes_eq}
-use Rattle.c_state.specs.CTokens.{CToken, Word, Sign}
+use Rattle.c_token.specs.CTokens.{CToken, Word, Sign}
 
 abbrev pub is_sign : List ℕ → Option CToken → Bool
 is_sign letters (Some (Sign bytes)) = bytes_eq bytes letters

@@ -1,7 +1,7 @@
 -- What stands behind `x =`, and what its first tokens say of it. The project's own profile of C (ISO/IEC 9899:2011).
 use Rattle.std.specs.Prelude.{◌≡◌, ℕ, List, [], ◌∷◌, ◌++◌, not, ◌&&◌, if◌then◌else◌, Option, Some, None}
 use Rattle.std.specs.List.{AllByRecursion}
-use Rattle.c_state.specs.CTokens.{CToken, Word, word, sign}
+use Rattle.c_token.specs.CTokens.{CToken, Word, word, sign}
 use Rattle.c_tree.specs.declared.statement.CStmt.{CStmt}
 use Rattle.c_tree.specs.declared.statement.CStmt.TheVariants as stmt
 use Rattle.c_tree.specs.declared.name.Numbered.{Numbered}

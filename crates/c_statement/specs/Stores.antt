@@ -1,6 +1,6 @@
 -- What is stored behind a view. The project's own profile of C (ISO/IEC 9899:2011).
 use Rattle.std.specs.Prelude.{List, [], ◌∷◌, ◌++◌}
-use Rattle.c_state.specs.CTokens.{CToken, word, sign}
+use Rattle.c_token.specs.CTokens.{CToken, word, sign}
 use Rattle.c_tree.specs.declared.name.Variable.{Variable}
 use Rattle.c_tree.specs.declared.statement.CStmt.{CStmt}
 use Rattle.c_tree.specs.declared.statement.CStmt.TheVariants as stmt

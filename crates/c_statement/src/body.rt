@@ -1,7 +1,7 @@
 //! Lines of a function.
 ghost use Rattle.std.specs.Prelude.{◌≡◌, ◌++◌, List, Some, IfOk};
 ghost use Rattle.std.specs.List.{flat_map};
-ghost use Rattle.c_state.specs.CTokens.{CToken};
+ghost use Rattle.c_token.specs.CTokens.{CToken};
 ghost use Rattle.c_tree.specs.declared.item.Line.{Line as LineTree};
 ghost use Rattle.c_tree.specs.Forms.{IsLine};
 ghost use Rattle.c_tree.specs.Items.{line_spelling};

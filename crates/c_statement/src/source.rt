@@ -1,7 +1,7 @@
 //! What stands behind `x =`, up to the `;`.
 
 use c_place::{ElementPlace, Method};
-use c_state::Bytes;
+use c_token::Bytes;
 use c_tree::{
     Argument, BinaryOp, CType, CValue, Callee, Extent, FieldPlace, Numbered, Variable, ViewNumber,
     ViewPlace,

@@ -1,6 +1,6 @@
 -- Where tables end: no row begins as an end does.
 use Rattle.std.proofs.Common.{◌≡◌, List, ◌++◌, sym, subst}
-use Rattle.c_state.specs.CTokens.{CToken}
+use Rattle.c_token.specs.CTokens.{CToken}
 use Rattle.c_tree.specs.declared.item.MethodRow.{MethodRow}
 use Rattle.c_tree.specs.declared.item.PropertyRow.{PropertyRow}
 use Rattle.c_input.proofs.Lists.{IsRead}

@@ -1,7 +1,7 @@
 -- Where no member of a name stands next.
 use Rattle.std.proofs.Common.{◌≡◌, List, ◌++◌, Some, ℕ, ap, sym, ◌∙◌, arith, get_or}
 use Rattle.std.specs.Prelude.{◌≢◌, None, Option, codes}
-use Rattle.c_state.specs.CTokens.{CToken}
+use Rattle.c_token.specs.CTokens.{CToken}
 use Rattle.c_tree.specs.declared.name.Numbered.{Numbered}
 use Rattle.c_table.specs.declared.kinds.Functions.{Functions}
 use Rattle.c_table.specs.declared.kinds.Tables.{Tables}

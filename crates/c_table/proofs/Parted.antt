@@ -1,7 +1,7 @@
 -- The parts of a type object.
 use Rattle.std.proofs.Common.{◌≡◌, List, ◌++◌, arith}
 use Rattle.std.specs.Prelude.{codes}
-use Rattle.c_state.specs.CTokens.{CToken}
+use Rattle.c_token.specs.CTokens.{CToken}
 use Rattle.c_tree.specs.declared.item.TypeObject.{TypeObject}
 use Rattle.c_table.specs.declared.kinds.Tables.{Tables}
 use Rattle.c_table.specs.Tables.{functions_of, tables_of, tables_tokens, Lacks}

@@ -2,7 +2,7 @@
 use Rattle.std.proofs.Common.{◌≡◌, ℕ, List, [], ◌∷◌, ◌++◌, Some, refl, ap, ◌∙◌}
 use Rattle.std.specs.Prelude.{Bool, Option, None, codes}
 use Rattle.std.specs.List.{flat_map}
-use Rattle.c_state.specs.CTokens.{CToken, Word, word, sign, c_tokens, tokens_from}
+use Rattle.c_token.specs.CTokens.{CToken, Word, word, sign, c_tokens, tokens_from}
 use Rattle.c_tree.specs.declared.item.Base.{Base}
 use Rattle.c_tree.specs.declared.item.Base.TheVariants as base
 use Rattle.c_tree.specs.declared.item.CItem.TheVariants as item

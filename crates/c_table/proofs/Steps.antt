@@ -1,7 +1,7 @@
 -- One reader after another: what was read, and what is left.
 use Rattle.std.proofs.Common.{◌≡◌, List, ◌++◌, Some, refl, sym, ◌∙◌, append_assoc}
 use Rattle.std.specs.Prelude.{Option}
-use Rattle.c_state.specs.CTokens.{CToken}
+use Rattle.c_token.specs.CTokens.{CToken}
 use Rattle.c_input.specs.Reads.{Finds, Reads, ReadsEvery}
 use Rattle.c_input.proofs.Rows as rows
 

@@ -3,7 +3,7 @@ use Rattle.std.proofs.Common.{◌≡◌, List, [], ◌∷◌, ◌++◌, Some, re
 use Rattle.std.specs.Prelude.{Bool, Option, None, codes}
 use Rattle.std.specs.List.{flat_map}
 use Rattle.std.proofs.lemmas.Grind.{flat_map-append}
-use Rattle.c_state.specs.CTokens.{CToken, word, sign, c_tokens, tokens_from}
+use Rattle.c_token.specs.CTokens.{CToken, word, sign, c_tokens, tokens_from}
 use Rattle.c_tree.specs.declared.item.CItem.TheVariants as item
 use Rattle.c_tree.specs.declared.item.TypeObject.{TypeObject}
 use Rattle.c_tree.specs.declared.name.Numbered.{Numbered}

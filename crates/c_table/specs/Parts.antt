@@ -1,7 +1,7 @@
 -- The tokens of the parts of structs and tables, told one by one. The project's own profile of C (ISO/IEC 9899:2011 6.7.2.1,
 -- 6.7.9; Python/C API manual, "Common Object Structures", "Type Objects").
 use Rattle.std.specs.Prelude.{ℕ, List, [], ◌∷◌, ◌++◌, Option, Some, None}
-use Rattle.c_state.specs.CTokens.{CToken, Word, word, sign}
+use Rattle.c_token.specs.CTokens.{CToken, Word, word, sign}
 use Rattle.c_tree.specs.declared.item.Base.{Base}
 use Rattle.c_tree.specs.declared.item.Base.TheVariants as base
 use Rattle.c_tree.specs.declared.item.MethodRow.{MethodRow}

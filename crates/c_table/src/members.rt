@@ -1,6 +1,6 @@
 //! Tables of one or two members.
 ghost use Rattle.std.specs.Prelude.{◌≡◌, ◌≢◌, ◌++◌, ◌∷◌, [], List, Option, Some};
-ghost use Rattle.c_state.specs.CTokens.{CToken};
+ghost use Rattle.c_token.specs.CTokens.{CToken};
 ghost use Rattle.c_tree.specs.declared.name.Numbered.{Numbered as NumberedValue};
 ghost use Rattle.c_tree.specs.Forms.{AreMembers, IsMember, IsNumbered};
 ghost use Rattle.c_input.specs.Reads.{pieces_shown, Finds, ReadsEvery};

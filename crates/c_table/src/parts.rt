@@ -1,6 +1,6 @@
 //! The parts of structs and rows.
 ghost use Rattle.std.specs.Prelude.{◌≡◌, ◌++◌, ◌∷◌, [], List, Some, IfOk, ⊤};
-ghost use Rattle.c_state.specs.CTokens.{CToken, Word};
+ghost use Rattle.c_token.specs.CTokens.{CToken, Word};
 ghost use Rattle.c_tree.specs.Forms.{IsBase, IsFieldNumber, IsProperty, IsSetter, IsTableName};
 ghost use Rattle.c_tree.specs.Names.{methods_name};
 ghost use Rattle.c_input.specs.Reads.{Finds, ReadsEvery};

@@ -1,6 +1,6 @@
 //! Rows of tables of methods and properties.
 ghost use Rattle.std.specs.Prelude.{◌≡◌, ◌++◌, ◌∷◌, [], List, Some, IfOk};
-ghost use Rattle.c_state.specs.CTokens.{CToken};
+ghost use Rattle.c_token.specs.CTokens.{CToken};
 ghost use Rattle.c_tree.specs.Forms.{IsFieldNumber, IsProperty, IsSetter};
 ghost use Rattle.c_input.specs.Reads.{Finds, ReadsEvery, Takes};
 ghost use Rattle.c_table.specs.Parts.{accessor_tokens, function_cast, method_end, method_tokens, property_end, property_tokens, setter_tokens, IsMethod};

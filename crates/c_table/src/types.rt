@@ -1,6 +1,6 @@
 //! Type objects.
 ghost use Rattle.std.specs.Prelude.{◌≡◌, ◌≢◌, ◌++◌, List, Option, Some, IfOk, codes};
-ghost use Rattle.c_state.specs.CTokens.{CToken};
+ghost use Rattle.c_token.specs.CTokens.{CToken};
 ghost use Rattle.c_tree.specs.declared.name.Numbered.{Numbered as NumberedValue};
 ghost use Rattle.c_tree.specs.Forms.{IsMember, IsNumbered, IsString};
 ghost use Rattle.c_input.specs.Reads.{Finds, ReadsEvery};
@@ -11,7 +11,7 @@ ghost use Rattle.c_table.specs.Tables.{functions_of, functions_tokens, item_toke
 use crate::kinds::{Functions, Tables};
 use crate::members::member;
 use c_input::{Input, Piece};
-use c_state::Bytes;
+use c_token::Bytes;
 use c_tree::{CItem, Numbered, TypeObject};
 use cy_base::OutOfMemory;
 use std::alloc::Global;

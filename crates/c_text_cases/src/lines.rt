@@ -5,7 +5,7 @@ ghost use Rattle.c_tree.specs.Forms.{IsArgument, IsCallee, IsStatement, IsString
 ghost use Rattle.c_text_cases.specs.Bodies.{AreLines};
 
 use anyhow::{Result, anyhow};
-use c_state::{Bytes, Exception};
+use c_token::{Bytes, Exception};
 use c_tree::{
     Argument, BinaryOp, CStmt, CTest, CValue, Callee, FixedParameter, FunctionName, Line, Literal,
     Numbered, Place, Variable,

@@ -3,7 +3,7 @@
 use Prim.Native.String.{String}
 use Rattle.std.specs.Prelude.{ℕ, suc, List, [], ◌∷◌, ◌++◌, Bool, true, false, Option, Some, None, length, replicate}
 use Rattle.std.specs.List.{flat_map}
-use Rattle.c_state.specs.CTokens.{CToken, Word, word, sign}
+use Rattle.c_token.specs.CTokens.{CToken, Word, word, sign}
 use Rattle.c_tree.specs.declared.item.Base.{Base}
 use Rattle.c_tree.specs.declared.item.Base.TheVariants as base
 use Rattle.c_tree.specs.declared.item.CFunction.{CFunction}

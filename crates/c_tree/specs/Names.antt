@@ -2,7 +2,7 @@
 use Prim.Native.String.{String}
 use Rattle.std.specs.Prelude.{ℕ, List, [], ◌∷◌, ◌++◌, codes, decimal}
 use Rattle.std.specs.List.{flat_map}
-use Rattle.c_state.specs.CTokens.{CToken, Word, sign, c_tokens}
+use Rattle.c_token.specs.CTokens.{CToken, Word, sign, c_tokens}
 use Rattle.c_tree.specs.declared.name.FieldNumber.{FieldNumber}
 use Rattle.c_tree.specs.declared.name.FixedParameter.{FixedParameter}
 use Rattle.c_tree.specs.declared.name.FixedParameter.TheVariants as fixed

@@ -1,7 +1,7 @@
 -- The C trees that a text holds. The project's own profile of C (ISO/IEC 9899:2011).
 use Rattle.std.specs.Prelude.{◌≡◌, ℕ, List, [], ◌∷◌, Bool, true, false}
-use Rattle.c_state.specs.CTokens.{CToken, c_tokens}
-use Rattle.c_state.specs.CReading.{c_items}
+use Rattle.c_token.specs.CTokens.{CToken, c_tokens}
+use Rattle.c_token.specs.Cutting.{c_items}
 use Rattle.c_tree.specs.declared.item.CItem.{CItem}
 use Rattle.c_tree.specs.Items.{item_spelling}
 use Rattle.c_tree.specs.Forms.{IsItem}

@@ -1,6 +1,6 @@
 -- How statements are spelled. The project's own profile of C (ISO/IEC 9899:2011; Python/C API manual).
 use Rattle.std.specs.Prelude.{ℕ, List, [], ◌∷◌, ◌++◌, Option, Some, None, decimal}
-use Rattle.c_state.specs.CTokens.{CToken, Word, word, sign}
+use Rattle.c_token.specs.CTokens.{CToken, Word, word, sign}
 use Rattle.c_tree.specs.declared.name.Numbered.{Numbered}
 use Rattle.c_tree.specs.declared.name.Variable.{Variable}
 use Rattle.c_tree.specs.declared.statement.Argument.{Argument}

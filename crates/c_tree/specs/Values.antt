@@ -1,9 +1,9 @@
 -- How types and operands are spelled. The project's own profile of C (ISO/IEC 9899:2011).
 use Rattle.std.specs.Prelude.{ℕ, suc, ◌+◌, ◌/◌, ◌%◌, ◌||◌, List, [], ◌∷◌, ◌++◌, ℤ, pos, negsuc, nat_lt, nat_eq, if◌then◌else◌, codes, decimal}
 use Rattle.std.specs.List.{flat_map}
-use Rattle.c_state.specs.CTokens.{CToken, Word, Str, word, sign}
-use Rattle.c_state.specs.declared.space.Exception.{Exception}
-use Rattle.c_state.specs.declared.space.Exception.TheVariants as exception
+use Rattle.c_token.specs.CTokens.{CToken, Word, Str, word, sign}
+use Rattle.c_token.specs.declared.exception.Exception.{Exception}
+use Rattle.c_token.specs.declared.exception.Exception.TheVariants as exception
 use Rattle.c_tree.specs.declared.value.CResult.{CResult}
 use Rattle.c_tree.specs.declared.value.CResult.TheVariants as result
 use Rattle.c_tree.specs.declared.value.CType.{CType}

@@ -1,7 +1,7 @@
 use crate::{
     CResult, CStmt, CType, FieldNumber, FunctionName, Numbered, Place, TableName, Variable,
 };
-use c_state::Bytes;
+use c_token::Bytes;
 use sqlite_items::Items;
 
 /// A label, which is no step, or a statement.

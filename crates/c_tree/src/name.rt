@@ -1,4 +1,4 @@
-use c_state::Bytes;
+use c_token::Bytes;
 
 /// What a set numbers: the module, and the place in it. Functions, methods included, and classes are numbered each in
 /// text order. `0_1` in a name.

@@ -1,5 +1,5 @@
 use crate::{CType, CValue, FunctionName, Numbered, Variable};
-use c_state::Bytes;
+use c_token::Bytes;
 use sqlite_items::Items;
 
 /// The sixteen operators between two operands (ISO/IEC 9899:2011 6.5.5 to 6.5.12).

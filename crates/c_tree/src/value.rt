@@ -1,5 +1,5 @@
 use crate::{Numbered, Variable};
-use c_state::Exception;
+use c_token::Exception;
 
 /// The C types of variables, parameters, results, fields and elements (ISO/IEC 9899:2011 6.2.5; Python/C API manual).
 #[derive(Clone, Copy, Debug, PartialEq, Eq)]

@@ -4,12 +4,12 @@ use Rattle.std.specs.Prelude.{nat_eq, if◌then◌else◌, codes, IfOk, IfSome, 
 use Rattle.std.specs.Bool.{Decides}
 use Rattle.std.specs.Char.{is_ascii_digit}
 use Rattle.std.specs.List.{AllByRecursion, list_all}
-use Rattle.c_state.specs.CTokens.{is_word_byte}
+use Rattle.c_token.specs.CTokens.{is_word_byte}
 use Rattle.std.specs.Str.{bytes_eq}
 use Rattle.std.proofs.lemmas.Bool.{eq-eqb, ne_eqb}
 use Rattle.std.proofs.lemmas.Fmt.{decimal_injective, decimal_nonempty}
-use Rattle.c_state.specs.declared.space.Exception.{Exception}
-use Rattle.c_state.specs.declared.space.Exception.TheVariants as exception
+use Rattle.c_token.specs.declared.exception.Exception.{Exception}
+use Rattle.c_token.specs.declared.exception.Exception.TheVariants as exception
 use Rattle.c_tree.specs.declared.name.FieldNumber.{FieldNumber}
 use Rattle.c_tree.specs.declared.name.FixedParameter.{FixedParameter}
 use Rattle.c_tree.specs.declared.name.FixedParameter.TheVariants as fixed

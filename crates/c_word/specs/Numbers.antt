@@ -2,7 +2,7 @@
 use Rattle.std.specs.Prelude.{◌≡◌, ⊤, ℕ, ◌≤◌, List, [], ◌∷◌, ◌++◌, Bool, false, not, ◌&&◌, codes, decimal}
 use Rattle.std.specs.Char.{is_ascii_digit}
 use Rattle.std.specs.List.{AllByRecursion, list_all}
-use Rattle.c_state.specs.CTokens.{is_word_byte}
+use Rattle.c_token.specs.CTokens.{is_word_byte}
 
 -- a module and a number in it, with `_` between them
 abbrev pub two_numbers : ℕ → ℕ → List ℕ

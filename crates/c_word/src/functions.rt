@@ -1,7 +1,7 @@
 //! Functions, and what calls name.
 ghost use Rattle.std.specs.Prelude.{◌≡◌, ◌≢◌, ◌++◌, ℕ, List, codes, IfOk, IfSome, MatchOption};
 ghost use Rattle.std.specs.List.{list_all};
-ghost use Rattle.c_state.specs.CTokens.{is_word_byte};
+ghost use Rattle.c_token.specs.CTokens.{is_word_byte};
 ghost use Rattle.c_tree.specs.declared.name.FunctionName.{FunctionName as FunctionValue};
 ghost use Rattle.c_tree.specs.declared.statement.Callee.{Callee as CalleeValue};
 ghost use Rattle.c_tree.specs.Forms.{IsCallee, IsFunctionName, IsIdentifier};
@@ -12,7 +12,7 @@ ghost use Rattle.c_word.specs.Numbers.{is_identifier};
 
 use crate::keywords::is_keyword;
 use crate::numbers::{behind, numbered, of_field};
-use c_state::Bytes;
+use c_token::Bytes;
 use c_tree::{Callee, FunctionName};
 use cy_base::OutOfMemory;
 use std::alloc::Global;

@@ -1,6 +1,6 @@
 //! Variables, tables and exceptions.
 ghost use Rattle.std.specs.Prelude.{◌≡◌, IfSome};
-ghost use Rattle.c_state.specs.declared.space.Exception.{Exception as ExceptionValue};
+ghost use Rattle.c_token.specs.declared.exception.Exception.{Exception as ExceptionValue};
 ghost use Rattle.c_tree.specs.declared.name.FixedParameter.{FixedParameter as FixedValue};
 ghost use Rattle.c_tree.specs.declared.name.Place.{Place as PlaceValue};
 ghost use Rattle.c_tree.specs.declared.name.TableName.{TableName as TableValue};
@@ -10,7 +10,7 @@ ghost use Rattle.c_tree.specs.Names.{fixed_name, methods_name, place_name, varia
 ghost use Rattle.c_tree.specs.Values.{exception_name};
 
 use crate::numbers::{lettered, numbered};
-use c_state::Exception;
+use c_token::Exception;
 use c_tree::{FixedParameter, Place, TableName, Variable};
 
 // The parameter of a fixed head with this name.

@@ -1,5 +1,5 @@
 use crate::{callee, exception, function, is_keyword, number, table, variable};
-use c_state::Exception;
+use c_token::Exception;
 use c_tree::{Callee, FixedParameter, FunctionName, Numbered, Place, TableName, Variable};
 use std::test::Fail;
 

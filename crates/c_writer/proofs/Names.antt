@@ -1,9 +1,9 @@
 -- Names that end in numbers are one word.
 use Rattle.std.proofs.Common.{◌≡◌, ℕ, List, [], ◌∷◌, ◌++◌, false, refl, get_or, decimal}
 use Rattle.std.specs.Prelude.{codes}
-use Rattle.c_state.specs.CTokens.{Word, c_tokens}
-use Rattle.c_state.specs.CReading.{AreWordBytes, IsNumberInForm}
-use Rattle.c_state.proofs.Tokens.{name_append, decimal_name}
+use Rattle.c_token.specs.CTokens.{Word, c_tokens}
+use Rattle.c_token.specs.Spelled.{AreWordBytes, IsNumberInForm}
+use Rattle.c_token.proofs.Tokens.{name_append, decimal_name}
 use Rattle.c_writer.specs.Rest.{glue, IsAtRest, IsLetters, two_numbers}
 use Rattle.c_writer.proofs.Splits.{word_rests, word_written}
 

@@ -6,9 +6,9 @@ use Rattle.std.specs.Str.{bytes_eq}
 use Rattle.std.proofs.lemmas.Bool.{eqb-true, ne_eqb}
 use Rattle.std.proofs.lemmas.Bool.Decides.{nat_tests}
 use Rattle.std.proofs.lemmas.Slice.Eq.{bytes_eq-Decides}
-use Rattle.c_state.specs.CTokens.{CToken, Word, Sign, Other, Str, Character, CLine, Fresh, Text, Hash, Include, Directive, after, Mode, Between, InWord, InSign, InQuotes, AfterBackslash, InHeader, HeaderName, Step, goes_on, gives, begin, ends, ByteKind, LineFeed, Blank, WordByte, Quote, Alone, Joining, Neither, kind_of, is_word_byte, is_long_sign, long_signs, quoted, step, tokens_from, c_tokens}
-use Rattle.c_state.specs.CReading.{AreWordBytes, quoted_byte}
-use Rattle.c_state.proofs.Tokens.{word_tokens, string_tokens}
+use Rattle.c_token.specs.CTokens.{CToken, Word, Sign, Other, Str, Character, CLine, Fresh, Text, Hash, Include, Directive, after, Mode, Between, InWord, InSign, InQuotes, AfterBackslash, InHeader, HeaderName, Step, goes_on, gives, begin, ends, ByteKind, LineFeed, Blank, WordByte, Quote, Alone, Joining, Neither, kind_of, is_word_byte, is_long_sign, long_signs, quoted, step, tokens_from, c_tokens}
+use Rattle.c_token.specs.Spelled.{AreWordBytes, quoted_byte}
+use Rattle.c_token.proofs.Tokens.{word_tokens, string_tokens}
 use Rattle.c_writer.specs.Rest.{mode_after, is_text_line, is_at_rest, has_no_hash, is_whole_text, is_joining, glue, fits, IsAtRest}
 
 -- the tokens that have ended within the bytes

@@ -1,8 +1,8 @@
 -- Where the reading of a text stands at its end (ISO/IEC 9899:2011 6.4).
 use Rattle.std.specs.Prelude.{◌≡◌, ℕ, ◌++◌, decimal, List, [], ◌∷◌, Bool, true, false, not, ◌&&◌, ◌||◌, nat_eq, codes}
 use Rattle.std.specs.List.{list_any, list_all}
-use Rattle.c_state.specs.CReading.{AreWordBytes}
-use Rattle.c_state.specs.CTokens.{CLine, Fresh, Text, Mode, Between, InWord, InSign, step, is_word_byte}
+use Rattle.c_token.specs.Spelled.{AreWordBytes}
+use Rattle.c_token.specs.CTokens.{CLine, Fresh, Text, Mode, Between, InWord, InSign, step, is_word_byte}
 
 -- where the reading stands after these bytes
 abbrev pub mode_after : Mode → List ℕ → Mode

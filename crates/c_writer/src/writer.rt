@@ -1,8 +1,8 @@
 //! What is written so far.
 ghost use Rattle.std.specs.Prelude.{◌≡◌, ◌++◌, ◌∷◌, [], ℕ, List, true, false, codes, decimal, IfOk, OnOk, length, ◌<◌};
 ghost use Rattle.std.specs.List.{flat_map};
-ghost use Rattle.c_state.specs.CTokens.{Between, Fresh, Str, Word, c_tokens, is_word_byte};
-ghost use Rattle.c_state.specs.CReading.{AreWordBytes, quoted_byte};
+ghost use Rattle.c_token.specs.CTokens.{Between, Fresh, Str, Word, c_tokens, is_word_byte};
+ghost use Rattle.c_token.specs.Spelled.{AreWordBytes, quoted_byte};
 ghost use Rattle.c_writer.specs.Rest.{glue, is_joining, is_whole_text, mode_after, two_numbers, IsAtRest, IsLetters};
 
 use itoa::Buffer;
@@ -19,7 +19,7 @@ pub struct Writer {
 
 impl Model for Writer {
     ghost use Rattle.std.specs.Prelude.{List};
-    ghost use Rattle.c_state.specs.CTokens.{CToken, c_tokens};
+    ghost use Rattle.c_token.specs.CTokens.{CToken, c_tokens};
     ghost use Rattle.c_writer.specs.Rest.{IsAtRest};
 
     ghost Value = { List CToken };

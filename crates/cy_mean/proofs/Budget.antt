@@ -1,17 +1,17 @@
 -- More budget only adds events at the end.
 use Rattle.std.proofs.Common.{◌≡◌, ℕ, zero, suc, ◌+◌, ◌≤◌, Bool, true, false, List, [], ◌∷◌, length, Option, Some, None, refl, sym, ap, subst, arith}
 use Rattle.std.specs.Prelude.{nat_eq, if◌then◌else◌, codes}
-use Rattle.c_state.specs.declared.space.Exception.{Exception}
-use Rattle.c_state.specs.declared.space.Exception.TheVariants as exception
-use Rattle.c_state.specs.declared.space.Obj.{Obj}
-use Rattle.c_state.specs.declared.space.Obj.TheVariants as obj
-use Rattle.c_state.specs.declared.space.Callee.{Callee}
-use Rattle.c_state.specs.declared.space.Op.{Op}
-use Rattle.c_state.specs.declared.space.Op.TheVariants as op
-use Rattle.c_state.specs.declared.space.Answer.{Answer}
-use Rattle.c_state.specs.declared.space.Event.{Event}
-use Rattle.c_state.specs.declared.space.Event.TheVariants as event
-use Rattle.c_state.specs.Objects.{NewResult, Gave, Raises, new_result, sure_result}
+use Rattle.c_token.specs.declared.exception.Exception.{Exception}
+use Rattle.c_token.specs.declared.exception.Exception.TheVariants as exception
+use Rattle.thin_state.specs.declared.space.Obj.{Obj}
+use Rattle.thin_state.specs.declared.space.Obj.TheVariants as obj
+use Rattle.thin_state.specs.declared.space.Callee.{Callee}
+use Rattle.thin_state.specs.declared.space.Op.{Op}
+use Rattle.thin_state.specs.declared.space.Op.TheVariants as op
+use Rattle.thin_state.specs.declared.space.Answer.{Answer}
+use Rattle.thin_state.specs.declared.space.Event.{Event}
+use Rattle.thin_state.specs.declared.space.Event.TheVariants as event
+use Rattle.thin_state.specs.Objects.{NewResult, Gave, Raises, new_result, sure_result}
 use Rattle.cy_mean.specs.Texts.{arity_text}
 use Rattle.cy_mean.specs.Source.{Expression, Named, Binary, Statement, Return, Function, Module, Sources}
 use Rattle.cy_mean.specs.Meaning.{SourceState, tell, add_ready, Outcome, Value, Raised, Stopped, Out, then_do, either_do, unit_then, Awaiter, ask, give, give_new, give_sure, raise_it, operate, operate_sure, raising, Local, local_of, bind_all, local_value, eval, Exit, Normal, Returns, returning, exec, after_statement, suite, results, call_of, Back, leaves, leaves_raise, leave, enter, Next, Nothing, Calls, Gives, next_inside, by_next, await_within, next_top, by_next_top, top_within, with_builtins, with_import, with_dictionary, with_module, initialise, initialised, not_initialised, initialise_all, first_state, state_of, run_within}

@@ -1,13 +1,13 @@
 -- The events of the C's steps: they only grow, and they end once.
 use Rattle.std.proofs.Common.{◌≡◌, ℕ, zero, suc, Bool, true, false, List, ◌++◌, length, refl, sym, subst}
 use Rattle.std.specs.Prelude.{if◌then◌else◌}
-use Rattle.c_state.specs.declared.space.Event.{Event}
-use Rattle.c_state.specs.declared.tree.CFile.{CFile}
-use Rattle.c_state.specs.declared.state.Course.{Course}
-use Rattle.c_state.specs.declared.state.Course.TheVariants as course
-use Rattle.c_state.specs.State.{CState, linked}
-use Rattle.c_state.specs.Statements.{Moved, Went, Over, Faulted}
-use Rattle.c_state.specs.Machine.{by_course, move, outside, went_or, settle_for, settle, stepped, c_step, c_steps, c_events}
+use Rattle.thin_state.specs.declared.space.Event.{Event}
+use Rattle.thin_state.specs.declared.tree.CFile.{CFile}
+use Rattle.thin_state.specs.declared.state.Course.{Course}
+use Rattle.thin_state.specs.declared.state.Course.TheVariants as course
+use Rattle.thin_state.specs.State.{CState, linked}
+use Rattle.thin_state.specs.Statements.{Moved, Went, Over, Faulted}
+use Rattle.thin_state.specs.Machine.{by_course, move, outside, went_or, settle_for, settle, stepped, c_step, c_steps, c_events}
 use Rattle.cy_mean.specs.Sound.{Prefix}
 use Rattle.cy_mean.specs.Laws.{EndsOnce, CEventsGrow, CEventsEndOnce}
 use Rattle.cy_mean.proofs.Endings.{is_open, open-append, closed-append, open-ends_once, closed-ends_once}

@@ -2,7 +2,7 @@
 use Rattle.std.proofs.Common.{◌≡◌, Bool, true, false, not, ◌&&◌, List, [], ◌∷◌, ◌++◌, refl, sym, ap, ◌∙◌, append_assoc}
 use Rattle.std.proofs.lemmas.Bool.{false≢true}
 use Rattle.std.proofs.lemmas.List.{append-nil}
-use Rattle.c_state.specs.declared.space.Event.{Event}
+use Rattle.thin_state.specs.declared.space.Event.{Event}
 use Rattle.cy_mean.specs.Sound.{Prefix}
 use Rattle.cy_mean.specs.Laws.{is_last, EndsOnce}
 

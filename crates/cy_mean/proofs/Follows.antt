@@ -1,9 +1,9 @@
 -- How the machine follows the meaning of a part.
 use Rattle.std.proofs.Common.{◌≡◌, ℕ, ◌+◌, ◌≤◌, refl, sym, subst, arith}
-use Rattle.c_state.specs.declared.space.Obj.{Obj}
-use Rattle.c_state.specs.State.{CState}
-use Rattle.c_state.specs.Statements.{Went, Over}
-use Rattle.c_state.specs.Machine.{move}
+use Rattle.thin_state.specs.declared.space.Obj.{Obj}
+use Rattle.thin_state.specs.State.{CState}
+use Rattle.thin_state.specs.Statements.{Went, Over}
+use Rattle.thin_state.specs.Machine.{move}
 use Rattle.cy_mean.specs.Meaning.{SourceState, Outcome, Value, Raised, Stopped, Out, then_do, either_do}
 use Rattle.cy_mean.proofs.Moves.{Pace, Comes, here, one, comes_on, less}
 

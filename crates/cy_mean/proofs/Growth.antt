@@ -1,47 +1,47 @@
 -- A move only adds events at the end, and `end` or `stop` only as the last one.
 use Rattle.std.proofs.Common.{◌≡◌, ◌⊎◌, inl, inr, Bool, true, false, not, ◌&&◌, List, [], ◌∷◌, ◌++◌, Option, Some, None, refl, sym, ap, ◌∙◌, subst}
 use Rattle.std.proofs.lemmas.List.{append-nil}
-use Rattle.c_state.specs.declared.space.Obj.{Obj}
-use Rattle.c_state.specs.declared.space.Callee.{Callee}
-use Rattle.c_state.specs.declared.space.Entry.{Entry}
-use Rattle.c_state.specs.declared.space.Entry.TheVariants as entry
-use Rattle.c_state.specs.declared.space.Op.{Op}
-use Rattle.c_state.specs.declared.space.Answer.{Answer}
-use Rattle.c_state.specs.declared.space.Event.{Event}
-use Rattle.c_state.specs.declared.space.Event.TheVariants as event
-use Rattle.c_state.specs.declared.tree.Variable.{Variable}
-use Rattle.c_state.specs.declared.tree.Place.{Place}
-use Rattle.c_state.specs.declared.tree.FunctionName.{FunctionName}
-use Rattle.c_state.specs.declared.tree.ApiRow.{ApiRow}
-use Rattle.c_state.specs.declared.tree.CValue.{CValue}
-use Rattle.c_state.specs.declared.tree.Comparison.{Comparison}
-use Rattle.c_state.specs.declared.tree.Target.{Target}
-use Rattle.c_state.specs.declared.tree.Target.TheVariants as target
-use Rattle.c_state.specs.declared.tree.CStmt.{CStmt}
-use Rattle.c_state.specs.declared.tree.CStmt.TheVariants as stmt
-use Rattle.c_state.specs.declared.tree.Line.{Line}
-use Rattle.c_state.specs.declared.tree.Line.TheVariants as line
-use Rattle.c_state.specs.declared.tree.CFile.{CFile}
-use Rattle.c_state.specs.declared.state.FaultKind.{FaultKind}
-use Rattle.c_state.specs.declared.state.FaultKind.TheVariants as fault
-use Rattle.c_state.specs.declared.state.Value.{Value}
-use Rattle.c_state.specs.declared.state.Value.TheVariants as value
-use Rattle.c_state.specs.declared.state.Reading.{Reading}
-use Rattle.c_state.specs.declared.state.Cell.{Cell}
-use Rattle.c_state.specs.declared.state.Spot.{Spot}
-use Rattle.c_state.specs.declared.state.Entered.{Entered}
-use Rattle.c_state.specs.declared.state.Entered.TheVariants as entered
-use Rattle.c_state.specs.declared.state.Doing.{Doing}
-use Rattle.c_state.specs.declared.state.Doing.TheVariants as doing
-use Rattle.c_state.specs.declared.state.Course.{Course}
-use Rattle.c_state.specs.declared.state.Course.TheVariants as course
-use Rattle.c_state.specs.Objects.{NewResult, Gave, Raises, new_result}
-use Rattle.c_state.specs.World.{answer_in, read_in}
-use Rattle.c_state.specs.State.{converts, Frame, CState}
-use Rattle.c_state.specs.Reads.{after_label, read, lends, is_set, result_kind, Found, FoundFunction, NotFound, entered_by, initializer_from, initializer_name}
-use Rattle.c_state.specs.Statements.{Moved, Went, Over, Faulted, need, need_some, on, off, tell, script_to, lend, may_read, may_store, may_write, same_lock, assign_variable, store_value, assign_place, assign, ask, api, call_found, call, owned_more, owned_less, counted, incref, decref, branch, goto_if, to_waiting, to_caller, hand_object, hand_null, return_value, return_it, act, run_line}
-use Rattle.c_state.specs.Outside.{How, NewReference, Borrowed, SetsError, how, deliver_new, deliver_by, answered, called, await, top_called, top, begin}
-use Rattle.c_state.specs.Machine.{by_frame, by_frames, by_course, move}
+use Rattle.thin_state.specs.declared.space.Obj.{Obj}
+use Rattle.thin_state.specs.declared.space.Callee.{Callee}
+use Rattle.thin_state.specs.declared.space.Entry.{Entry}
+use Rattle.thin_state.specs.declared.space.Entry.TheVariants as entry
+use Rattle.thin_state.specs.declared.space.Op.{Op}
+use Rattle.thin_state.specs.declared.space.Answer.{Answer}
+use Rattle.thin_state.specs.declared.space.Event.{Event}
+use Rattle.thin_state.specs.declared.space.Event.TheVariants as event
+use Rattle.thin_state.specs.declared.tree.Variable.{Variable}
+use Rattle.thin_state.specs.declared.tree.Place.{Place}
+use Rattle.thin_state.specs.declared.tree.FunctionName.{FunctionName}
+use Rattle.thin_state.specs.declared.tree.ApiRow.{ApiRow}
+use Rattle.thin_state.specs.declared.tree.CValue.{CValue}
+use Rattle.thin_state.specs.declared.tree.Comparison.{Comparison}
+use Rattle.thin_state.specs.declared.tree.Target.{Target}
+use Rattle.thin_state.specs.declared.tree.Target.TheVariants as target
+use Rattle.thin_state.specs.declared.tree.CStmt.{CStmt}
+use Rattle.thin_state.specs.declared.tree.CStmt.TheVariants as stmt
+use Rattle.thin_state.specs.declared.tree.Line.{Line}
+use Rattle.thin_state.specs.declared.tree.Line.TheVariants as line
+use Rattle.thin_state.specs.declared.tree.CFile.{CFile}
+use Rattle.thin_state.specs.declared.state.FaultKind.{FaultKind}
+use Rattle.thin_state.specs.declared.state.FaultKind.TheVariants as fault
+use Rattle.thin_state.specs.declared.state.Value.{Value}
+use Rattle.thin_state.specs.declared.state.Value.TheVariants as value
+use Rattle.thin_state.specs.declared.state.Reading.{Reading}
+use Rattle.thin_state.specs.declared.state.Cell.{Cell}
+use Rattle.thin_state.specs.declared.state.Spot.{Spot}
+use Rattle.thin_state.specs.declared.state.Entered.{Entered}
+use Rattle.thin_state.specs.declared.state.Entered.TheVariants as entered
+use Rattle.thin_state.specs.declared.state.Doing.{Doing}
+use Rattle.thin_state.specs.declared.state.Doing.TheVariants as doing
+use Rattle.thin_state.specs.declared.state.Course.{Course}
+use Rattle.thin_state.specs.declared.state.Course.TheVariants as course
+use Rattle.thin_state.specs.Objects.{NewResult, Gave, Raises, new_result}
+use Rattle.thin_state.specs.World.{answer_in, read_in}
+use Rattle.thin_state.specs.State.{converts, Frame, CState}
+use Rattle.thin_state.specs.Reads.{after_label, read, lends, is_set, result_kind, Found, FoundFunction, NotFound, entered_by, initializer_from, initializer_name}
+use Rattle.thin_state.specs.Statements.{Moved, Went, Over, Faulted, need, need_some, on, off, tell, script_to, lend, may_read, may_store, may_write, same_lock, assign_variable, store_value, assign_place, assign, ask, api, call_found, call, owned_more, owned_less, counted, incref, decref, branch, goto_if, to_waiting, to_caller, hand_object, hand_null, return_value, return_it, act, run_line}
+use Rattle.thin_state.specs.Outside.{How, NewReference, Borrowed, SetsError, how, deliver_new, deliver_by, answered, called, await, top_called, top, begin}
+use Rattle.thin_state.specs.Machine.{by_frame, by_frames, by_course, move}
 use Rattle.cy_mean.specs.Sound.{Prefix}
 use Rattle.cy_mean.specs.Laws.{is_last}
 use Rattle.cy_mean.proofs.Same.{and_true}

@@ -1,10 +1,10 @@
 -- Runs of moves.
 use Rattle.std.proofs.Common.{◌≡◌, ℕ, zero, suc, ◌+◌, ◌*◌, ◌≤◌, List, refl, ap, ◌∙◌, arith}
-use Rattle.c_state.specs.declared.tree.CFile.{CFile}
-use Rattle.c_state.specs.declared.state.FaultKind.{FaultKind}
-use Rattle.c_state.specs.State.{CState}
-use Rattle.c_state.specs.Statements.{Moved, Went, Over, Faulted}
-use Rattle.c_state.specs.Machine.{move}
+use Rattle.thin_state.specs.declared.tree.CFile.{CFile}
+use Rattle.thin_state.specs.declared.state.FaultKind.{FaultKind}
+use Rattle.thin_state.specs.State.{CState}
+use Rattle.thin_state.specs.Statements.{Moved, Went, Over, Faulted}
+use Rattle.thin_state.specs.Machine.{move}
 
 -- where some moves lead: a state, where it stays at the end, or a fault
 pub data Reached : Type 0 where

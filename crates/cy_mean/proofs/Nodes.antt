@@ -1,7 +1,7 @@
 -- Nodes of the sources that take a unit, and names.
 use Rattle.std.proofs.Common.{◌≡◌, ℕ, zero, suc, ◌≤◌, List, Option, Some, refl, sym, subst, arith}
-use Rattle.c_state.specs.declared.space.Obj.{Obj}
-use Rattle.c_state.specs.State.{CState}
+use Rattle.thin_state.specs.declared.space.Obj.{Obj}
+use Rattle.thin_state.specs.State.{CState}
 use Rattle.cy_mean.specs.Source.{Named}
 use Rattle.cy_mean.specs.Meaning.{SourceState, Outcome, unit_then, Awaiter, Local, local_of, local_value, eval}
 use Rattle.cy_mean.proofs.Moves.{Pace, here}

@@ -1,23 +1,23 @@
 -- Any operation and any call from outside, at any depth.
 use Rattle.std.proofs.Common.{◌≡◌, ℕ, zero, suc, ◌≤◌, List, [], ◌∷◌, Option, Some, None, refl, arith}
-use Rattle.c_state.specs.declared.space.Obj.{Obj}
-use Rattle.c_state.specs.declared.space.Callee.{Callee}
-use Rattle.c_state.specs.declared.space.Entry.{Entry}
-use Rattle.c_state.specs.declared.space.Entry.TheVariants as entry
-use Rattle.c_state.specs.declared.space.Op.{Op}
-use Rattle.c_state.specs.declared.space.Answer.{Answer}
-use Rattle.c_state.specs.declared.space.Event.TheVariants as event
-use Rattle.c_state.specs.declared.tree.Variable.{Variable}
-use Rattle.c_state.specs.declared.tree.ApiRow.{ApiRow}
-use Rattle.c_state.specs.declared.tree.CFunction.{CFunction}
-use Rattle.c_state.specs.declared.state.Doing.TheVariants as doing
-use Rattle.c_state.specs.declared.state.Course.TheVariants as course
-use Rattle.c_state.specs.World.{World, say, with_script, answer_in, read_in}
-use Rattle.c_state.specs.State.{Frame, CState}
-use Rattle.c_state.specs.Reads.{Found, FoundFunction, NotFound, entered_by}
-use Rattle.c_state.specs.Statements.{Went, tell, script_to}
-use Rattle.c_state.specs.Outside.{deliver, enter, answered, called}
-use Rattle.c_state.specs.Machine.{move}
+use Rattle.thin_state.specs.declared.space.Obj.{Obj}
+use Rattle.thin_state.specs.declared.space.Callee.{Callee}
+use Rattle.thin_state.specs.declared.space.Entry.{Entry}
+use Rattle.thin_state.specs.declared.space.Entry.TheVariants as entry
+use Rattle.thin_state.specs.declared.space.Op.{Op}
+use Rattle.thin_state.specs.declared.space.Answer.{Answer}
+use Rattle.thin_state.specs.declared.space.Event.TheVariants as event
+use Rattle.thin_state.specs.declared.tree.Variable.{Variable}
+use Rattle.thin_state.specs.declared.tree.ApiRow.{ApiRow}
+use Rattle.thin_state.specs.declared.tree.CFunction.{CFunction}
+use Rattle.thin_state.specs.declared.state.Doing.TheVariants as doing
+use Rattle.thin_state.specs.declared.state.Course.TheVariants as course
+use Rattle.thin_state.specs.World.{World, say, with_script, answer_in, read_in}
+use Rattle.thin_state.specs.State.{Frame, CState}
+use Rattle.thin_state.specs.Reads.{Found, FoundFunction, NotFound, entered_by}
+use Rattle.thin_state.specs.Statements.{Went, tell, script_to}
+use Rattle.thin_state.specs.Outside.{deliver, enter, answered, called}
+use Rattle.thin_state.specs.Machine.{move}
 use Rattle.cy_mean.specs.Source.{Function, Sources}
 use Rattle.cy_mean.specs.Meaning.{ReadyModule, SourceState, Outcome, Out, then_do, Back, leave, call_of, Gives, called_by, calls_or_gives, next_inside, by_next, await_within}
 use Rattle.cy_mean.specs.Meaning as meaning

@@ -1,7 +1,7 @@
 -- At top level nothing is raised: the outside takes results and raises.
 use Rattle.std.proofs.Common.{ℕ, zero, suc, List, [], ◌∷◌}
-use Rattle.c_state.specs.declared.space.Obj.{Obj}
-use Rattle.c_state.specs.declared.space.Callee.{Callee}
+use Rattle.thin_state.specs.declared.space.Obj.{Obj}
+use Rattle.thin_state.specs.declared.space.Callee.{Callee}
 use Rattle.cy_mean.specs.Source.{Function, Sources}
 use Rattle.cy_mean.specs.Meaning.{SourceState, Outcome, Value, Raised, Stopped, Out, then_do, either_do, unit_then, Awaiter, Back, leave, leaves, leaves_raise, enter, Next, Nothing, Calls, Gives, next_top, by_next_top, await_within, top_within, initialised, not_initialised, initialise_all}
 

@@ -2,9 +2,9 @@
 use Rattle.std.proofs.Common.{◌≡◌, ℕ, Bool, true, false, ◌&&◌, ◌||◌, List, [], ◌∷◌, refl, ap, ◌∙◌, eq-eqb}
 use Rattle.std.specs.Prelude.{nat_eq}
 use Rattle.std.specs.Str.{bytes_eq}
-use Rattle.c_state.specs.declared.space.Obj.{Obj}
-use Rattle.c_state.specs.declared.space.Obj.TheVariants as obj
-use Rattle.c_state.specs.Objects.{same_obj, exception_number}
+use Rattle.thin_state.specs.declared.space.Obj.{Obj}
+use Rattle.thin_state.specs.declared.space.Obj.TheVariants as obj
+use Rattle.thin_state.specs.Objects.{same_obj, exception_number}
 
 pub nat_same : (n : ℕ) → nat_eq n n ≡ true
 nat_same n = eq-eqb n n refl

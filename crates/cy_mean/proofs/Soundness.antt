@@ -1,12 +1,12 @@
 -- Files whose runs follow the runs of their sources are sound.
 use Rattle.std.proofs.Common.{◌≡◌, ℕ, ◌+◌, ◌*◌, ◌≤◌, ◌<◌, ◌⊎◌, inl, inr, List, sym, ap, ◌∙◌, subst, arith}
 use Rattle.std.proofs.Math.Nat.{le_of_mul-le-mul_left}
-use Rattle.c_state.specs.declared.space.Entry.{Entry}
-use Rattle.c_state.specs.declared.space.Event.{Event}
-use Rattle.c_state.specs.declared.state.FaultKind.{FaultKind}
-use Rattle.c_state.specs.State.{CState, linked}
-use Rattle.c_state.specs.Statements.{Over}
-use Rattle.c_state.specs.Machine.{move, c_steps, c_events}
+use Rattle.thin_state.specs.declared.space.Entry.{Entry}
+use Rattle.thin_state.specs.declared.space.Event.{Event}
+use Rattle.thin_state.specs.declared.state.FaultKind.{FaultKind}
+use Rattle.thin_state.specs.State.{CState, linked}
+use Rattle.thin_state.specs.Statements.{Over}
+use Rattle.thin_state.specs.Machine.{move, c_steps, c_events}
 use Rattle.cy_mean.specs.Source.{Sources}
 use Rattle.cy_mean.specs.Meaning.{SourceState, Outcome, Value, Raised, Stopped, Out, Back, first_state, state_of, run_within, source_events}
 use Rattle.cy_mean.specs.Sound.{Prefix, IsSoundOn}

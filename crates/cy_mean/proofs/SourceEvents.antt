@@ -2,20 +2,20 @@
 use Rattle.std.proofs.Common.{◌≡◌, ℕ, zero, suc, Bool, true, false, not, ◌&&◌, List, [], ◌∷◌, ◌++◌, length, Option, Some, None, refl, sym, ap, ◌∙◌, subst, append_assoc}
 use Rattle.std.specs.Prelude.{nat_eq, if◌then◌else◌, codes}
 use Rattle.std.proofs.lemmas.List.{append-nil}
-use Rattle.c_state.specs.declared.space.Exception.{Exception}
-use Rattle.c_state.specs.declared.space.Exception.TheVariants as exception
-use Rattle.c_state.specs.declared.space.Obj.{Obj}
-use Rattle.c_state.specs.declared.space.Obj.TheVariants as obj
-use Rattle.c_state.specs.declared.space.Callee.{Callee}
-use Rattle.c_state.specs.declared.space.Entry.{Entry}
-use Rattle.c_state.specs.declared.space.Entry.TheVariants as entry
-use Rattle.c_state.specs.declared.space.Op.{Op}
-use Rattle.c_state.specs.declared.space.Op.TheVariants as op
-use Rattle.c_state.specs.declared.space.Answer.{Answer}
-use Rattle.c_state.specs.declared.space.Event.{Event}
-use Rattle.c_state.specs.declared.space.Event.TheVariants as event
-use Rattle.c_state.specs.Objects.{NewResult, Gave, Raises, new_result}
-use Rattle.c_state.specs.World.{answer_in}
+use Rattle.c_token.specs.declared.exception.Exception.{Exception}
+use Rattle.c_token.specs.declared.exception.Exception.TheVariants as exception
+use Rattle.thin_state.specs.declared.space.Obj.{Obj}
+use Rattle.thin_state.specs.declared.space.Obj.TheVariants as obj
+use Rattle.thin_state.specs.declared.space.Callee.{Callee}
+use Rattle.thin_state.specs.declared.space.Entry.{Entry}
+use Rattle.thin_state.specs.declared.space.Entry.TheVariants as entry
+use Rattle.thin_state.specs.declared.space.Op.{Op}
+use Rattle.thin_state.specs.declared.space.Op.TheVariants as op
+use Rattle.thin_state.specs.declared.space.Answer.{Answer}
+use Rattle.thin_state.specs.declared.space.Event.{Event}
+use Rattle.thin_state.specs.declared.space.Event.TheVariants as event
+use Rattle.thin_state.specs.Objects.{NewResult, Gave, Raises, new_result}
+use Rattle.thin_state.specs.World.{answer_in}
 use Rattle.cy_mean.specs.Texts.{arity_text}
 use Rattle.cy_mean.specs.Source.{Expression, Named, Binary, Statement, Return, Function, Module, Sources}
 use Rattle.cy_mean.specs.Meaning.{SourceState, tell, script_to, add_ready, Outcome, Value, Raised, Stopped, Out, then_do, either_do, unit_then, Awaiter, ask, give, give_new, give_sure, raise_it, operate, operate_sure, raising, Local, local_of, bind_all, local_value, eval, Exit, Normal, Returns, returning, exec, after_statement, suite, results, call_of, Back, leaves, leaves_raise, leave, enter, Next, Nothing, Calls, Gives, called_by, calls_or_gives, next_inside, by_next, await_within, calls_or_skips, next_top, by_next_top, top_within, with_builtins, with_import, with_dictionary, with_module, initialise, initialised, not_initialised, after_initialise, initialise_all, first_state, state_of, run_within}

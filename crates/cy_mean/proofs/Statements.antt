@@ -3,27 +3,27 @@ use Rattle.std.proofs.Common.{◌≡◌, ℕ, ◌<◌, Bool, true, false, not, �
 use Rattle.std.specs.Prelude.{pos, negsuc, nat_lt, is_none, ◌%◌, ◌-◌, if◌then◌else◌}
 use Rattle.std.proofs.Math.Nat.{mod-eq_of_lt}
 use Rattle.std.proofs.lemmas.Bool.{lt-ltb}
-use Rattle.c_state.specs.declared.space.Obj.{Obj}
-use Rattle.c_state.specs.declared.space.Op.{Op}
-use Rattle.c_state.specs.declared.space.Event.TheVariants as event
-use Rattle.c_state.specs.declared.tree.Variable.{Variable}
-use Rattle.c_state.specs.declared.tree.FunctionName.{FunctionName}
-use Rattle.c_state.specs.declared.tree.ApiRow.{ApiRow}
-use Rattle.c_state.specs.declared.tree.CValue.{CValue}
-use Rattle.c_state.specs.declared.tree.CFunction.{CFunction}
-use Rattle.c_state.specs.declared.tree.CFile.{CFile}
-use Rattle.c_state.specs.declared.state.FaultKind.{FaultKind}
-use Rattle.c_state.specs.declared.state.FaultKind.TheVariants as fault
-use Rattle.c_state.specs.declared.state.Kind.{Kind}
-use Rattle.c_state.specs.declared.state.Kind.TheVariants as kind
-use Rattle.c_state.specs.declared.state.Value.{Value}
-use Rattle.c_state.specs.declared.state.Value.TheVariants as value
-use Rattle.c_state.specs.declared.state.Reading.{Reading}
-use Rattle.c_state.specs.declared.state.Doing.TheVariants as doing
-use Rattle.c_state.specs.declared.state.Entered.TheVariants as entered
-use Rattle.c_state.specs.State.{low_half, wrap_int, Frame, CState, has, held, all_held}
-use Rattle.c_state.specs.Reads.{loans_after, all_set, any_null, any_module_variable, passed, values_of, fits, receives, Found, FoundFunction, function_named, parameter_kinds, result_kind, frame_of}
-use Rattle.c_state.specs.Statements.{Moved, Went, need, need_some, on, tell, takes, row_result, op_of, error_fault, ask, api, call_found, call}
+use Rattle.thin_state.specs.declared.space.Obj.{Obj}
+use Rattle.thin_state.specs.declared.space.Op.{Op}
+use Rattle.thin_state.specs.declared.space.Event.TheVariants as event
+use Rattle.thin_state.specs.declared.tree.Variable.{Variable}
+use Rattle.thin_state.specs.declared.tree.FunctionName.{FunctionName}
+use Rattle.thin_state.specs.declared.tree.ApiRow.{ApiRow}
+use Rattle.thin_state.specs.declared.tree.CValue.{CValue}
+use Rattle.thin_state.specs.declared.tree.CFunction.{CFunction}
+use Rattle.thin_state.specs.declared.tree.CFile.{CFile}
+use Rattle.thin_state.specs.declared.state.FaultKind.{FaultKind}
+use Rattle.thin_state.specs.declared.state.FaultKind.TheVariants as fault
+use Rattle.thin_state.specs.declared.state.Kind.{Kind}
+use Rattle.thin_state.specs.declared.state.Kind.TheVariants as kind
+use Rattle.thin_state.specs.declared.state.Value.{Value}
+use Rattle.thin_state.specs.declared.state.Value.TheVariants as value
+use Rattle.thin_state.specs.declared.state.Reading.{Reading}
+use Rattle.thin_state.specs.declared.state.Doing.TheVariants as doing
+use Rattle.thin_state.specs.declared.state.Entered.TheVariants as entered
+use Rattle.thin_state.specs.State.{low_half, wrap_int, Frame, CState, has, held, all_held}
+use Rattle.thin_state.specs.Reads.{loans_after, all_set, any_null, any_module_variable, passed, values_of, fits, receives, Found, FoundFunction, function_named, parameter_kinds, result_kind, frame_of}
+use Rattle.thin_state.specs.Statements.{Moved, Went, need, need_some, on, tell, takes, row_result, op_of, error_fault, ask, api, call_found, call}
 use Rattle.cy_mean.proofs.Same.{and_true, or_left, or_right, obj_same}
 
 -- objects as operands give them, and as values

@@ -2,29 +2,29 @@
 use Rattle.std.proofs.Common.{◌≡◌, ℕ, zero, suc, ◌+◌, ◌-◌, ◌≤◌, ◌<◌, ◌⊎◌, inl, inr, ⊎_elim, Bool, true, false, List, [], ◌∷◌, length, Option, refl, sym, ap, ◌∙◌, subst, arith}
 use Rattle.std.specs.Prelude.{if◌then◌else◌}
 use Rattle.std.proofs.lemmas.Bool.{cases_lt}
-use Rattle.c_state.specs.declared.space.Obj.{Obj}
-use Rattle.c_state.specs.declared.space.Callee.{Callee}
-use Rattle.c_state.specs.declared.space.Entry.{Entry}
-use Rattle.c_state.specs.declared.space.Entry.TheVariants as entry
-use Rattle.c_state.specs.declared.space.Op.{Op}
-use Rattle.c_state.specs.declared.space.Answer.{Answer}
-use Rattle.c_state.specs.declared.space.Event.TheVariants as event
-use Rattle.c_state.specs.declared.tree.Variable.{Variable}
-use Rattle.c_state.specs.declared.tree.ApiRow.{ApiRow}
-use Rattle.c_state.specs.declared.tree.CFile.{CFile}
-use Rattle.c_state.specs.declared.state.FaultKind.{FaultKind}
-use Rattle.c_state.specs.declared.state.Step.TheVariants as step
-use Rattle.c_state.specs.declared.state.Doing.{Doing}
-use Rattle.c_state.specs.declared.state.Doing.TheVariants as doing
-use Rattle.c_state.specs.declared.state.Course.{Course}
-use Rattle.c_state.specs.declared.state.Course.TheVariants as course
-use Rattle.c_state.specs.Objects.{NewResult, Gave, Raises, new_result}
-use Rattle.c_state.specs.World.{answer_in}
-use Rattle.c_state.specs.State.{Frame, CState}
-use Rattle.c_state.specs.Reads.{Found, FoundFunction, NotFound, entered_by, initializer_from}
-use Rattle.c_state.specs.Statements.{Moved, Went, Over, Faulted, off, tell, script_to}
-use Rattle.c_state.specs.Outside.{How, NewReference, Borrowed, SetsError, how, deliver_new, deliver_by, answered, called, await, top_called, top, begin, idle}
-use Rattle.c_state.specs.Machine.{by_frame, by_frames, by_course, move, is_asking, none_runs, outside_by, outside, went_or, settle_for, settle, over_answer, stepped, c_step, c_steps}
+use Rattle.thin_state.specs.declared.space.Obj.{Obj}
+use Rattle.thin_state.specs.declared.space.Callee.{Callee}
+use Rattle.thin_state.specs.declared.space.Entry.{Entry}
+use Rattle.thin_state.specs.declared.space.Entry.TheVariants as entry
+use Rattle.thin_state.specs.declared.space.Op.{Op}
+use Rattle.thin_state.specs.declared.space.Answer.{Answer}
+use Rattle.thin_state.specs.declared.space.Event.TheVariants as event
+use Rattle.thin_state.specs.declared.tree.Variable.{Variable}
+use Rattle.thin_state.specs.declared.tree.ApiRow.{ApiRow}
+use Rattle.thin_state.specs.declared.tree.CFile.{CFile}
+use Rattle.thin_state.specs.declared.state.FaultKind.{FaultKind}
+use Rattle.thin_state.specs.declared.state.Step.TheVariants as step
+use Rattle.thin_state.specs.declared.state.Doing.{Doing}
+use Rattle.thin_state.specs.declared.state.Doing.TheVariants as doing
+use Rattle.thin_state.specs.declared.state.Course.{Course}
+use Rattle.thin_state.specs.declared.state.Course.TheVariants as course
+use Rattle.thin_state.specs.Objects.{NewResult, Gave, Raises, new_result}
+use Rattle.thin_state.specs.World.{answer_in}
+use Rattle.thin_state.specs.State.{Frame, CState}
+use Rattle.thin_state.specs.Reads.{Found, FoundFunction, NotFound, entered_by, initializer_from}
+use Rattle.thin_state.specs.Statements.{Moved, Went, Over, Faulted, off, tell, script_to}
+use Rattle.thin_state.specs.Outside.{How, NewReference, Borrowed, SetsError, how, deliver_new, deliver_by, answered, called, await, top_called, top, begin, idle}
+use Rattle.thin_state.specs.Machine.{by_frame, by_frames, by_course, move, is_asking, none_runs, outside_by, outside, went_or, settle_for, settle, over_answer, stepped, c_step, c_steps}
 use Rattle.cy_mean.specs.Sound.{Prefix}
 use Rattle.cy_mean.proofs.Moves.{Reached, At, Bad, moves, moves_on}
 use Rattle.cy_mean.proofs.Endings.{same_prefix, prefix_trans}

@@ -1,18 +1,18 @@
 -- The entries at top level, and what a whole run is followed by.
 use Rattle.std.proofs.Common.{◌≡◌, ℕ, zero, suc, ◌≤◌, List, [], ◌∷◌, Option, Some, None, refl, ap, arith}
-use Rattle.c_state.specs.declared.space.Obj.{Obj}
-use Rattle.c_state.specs.declared.space.Callee.{Callee}
-use Rattle.c_state.specs.declared.space.Entry.{Entry}
-use Rattle.c_state.specs.declared.space.Entry.TheVariants as entry
-use Rattle.c_state.specs.declared.space.Event.TheVariants as event
-use Rattle.c_state.specs.declared.tree.CFunction.{CFunction}
-use Rattle.c_state.specs.declared.state.Course.TheVariants as course
-use Rattle.c_state.specs.World.{World, say, with_script, read_in}
-use Rattle.c_state.specs.State.{CState}
-use Rattle.c_state.specs.Reads.{Found, FoundFunction, NotFound, entered_by, initializer_from}
-use Rattle.c_state.specs.Statements.{Went, Over}
-use Rattle.c_state.specs.Outside.{enter, top, top_called, begin}
-use Rattle.c_state.specs.Machine.{move}
+use Rattle.thin_state.specs.declared.space.Obj.{Obj}
+use Rattle.thin_state.specs.declared.space.Callee.{Callee}
+use Rattle.thin_state.specs.declared.space.Entry.{Entry}
+use Rattle.thin_state.specs.declared.space.Entry.TheVariants as entry
+use Rattle.thin_state.specs.declared.space.Event.TheVariants as event
+use Rattle.thin_state.specs.declared.tree.CFunction.{CFunction}
+use Rattle.thin_state.specs.declared.state.Course.TheVariants as course
+use Rattle.thin_state.specs.World.{World, say, with_script, read_in}
+use Rattle.thin_state.specs.State.{CState}
+use Rattle.thin_state.specs.Reads.{Found, FoundFunction, NotFound, entered_by, initializer_from}
+use Rattle.thin_state.specs.Statements.{Went, Over}
+use Rattle.thin_state.specs.Outside.{enter, top, top_called, begin}
+use Rattle.thin_state.specs.Machine.{move}
 use Rattle.cy_mean.specs.Source.{Function}
 use Rattle.cy_mean.specs.Meaning.{SourceState, Outcome, Out, then_do, Back, leave, call_of, called_by, calls_or_skips, next_top, by_next_top, await_within, top_within}
 use Rattle.cy_mean.specs.Meaning as meaning

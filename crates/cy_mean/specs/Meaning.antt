@@ -2,21 +2,21 @@
 -- The budget is threaded: each expression node, statement node and call from outside takes one unit before it does anything.
 use Rattle.std.specs.Prelude.{ℕ, zero, suc, List, [], ◌∷◌, ◌++◌, Option, Some, None, length, if◌then◌else◌, nat_eq, codes}
 use Rattle.std.specs.Str.{bytes_eq}
-use Rattle.c_state.specs.declared.space.Exception.{Exception}
-use Rattle.c_state.specs.declared.space.Exception.TheVariants as exception
-use Rattle.c_state.specs.declared.space.Obj.{Obj}
-use Rattle.c_state.specs.declared.space.Obj.TheVariants as obj
-use Rattle.c_state.specs.declared.space.Callee.{Callee}
-use Rattle.c_state.specs.declared.space.Callee.TheVariants as callee
-use Rattle.c_state.specs.declared.space.Entry.{Entry}
-use Rattle.c_state.specs.declared.space.Entry.TheVariants as entry
-use Rattle.c_state.specs.declared.space.Op.{Op}
-use Rattle.c_state.specs.declared.space.Op.TheVariants as op
-use Rattle.c_state.specs.declared.space.Answer.{Answer}
-use Rattle.c_state.specs.declared.space.Event.{Event}
-use Rattle.c_state.specs.declared.space.Event.TheVariants as event
-use Rattle.c_state.specs.Objects.{NewResult, Gave, Raises, new_result, sure_result}
-use Rattle.c_state.specs.World.{World, first_world, say, with_script, answer_in, read_in}
+use Rattle.c_token.specs.declared.exception.Exception.{Exception}
+use Rattle.c_token.specs.declared.exception.Exception.TheVariants as exception
+use Rattle.thin_state.specs.declared.space.Obj.{Obj}
+use Rattle.thin_state.specs.declared.space.Obj.TheVariants as obj
+use Rattle.thin_state.specs.declared.space.Callee.{Callee}
+use Rattle.thin_state.specs.declared.space.Callee.TheVariants as callee
+use Rattle.thin_state.specs.declared.space.Entry.{Entry}
+use Rattle.thin_state.specs.declared.space.Entry.TheVariants as entry
+use Rattle.thin_state.specs.declared.space.Op.{Op}
+use Rattle.thin_state.specs.declared.space.Op.TheVariants as op
+use Rattle.thin_state.specs.declared.space.Answer.{Answer}
+use Rattle.thin_state.specs.declared.space.Event.{Event}
+use Rattle.thin_state.specs.declared.space.Event.TheVariants as event
+use Rattle.thin_state.specs.Objects.{NewResult, Gave, Raises, new_result, sure_result}
+use Rattle.thin_state.specs.World.{World, first_world, say, with_script, answer_in, read_in}
 use Rattle.cy_mean.specs.Texts.{arity_text}
 use Rattle.cy_mean.specs.Source.{Expression, Named, Binary, Statement, Return, Function, Module, Sources}
 

@@ -1,13 +1,13 @@
 -- What it is for written C to mean what its sources mean. The project's own.
 use Rattle.std.specs.Prelude.{◌≡◌, ◌≢◌, ℕ, List, ◌++◌}
-use Rattle.c_state.specs.declared.space.Entry.{Entry}
-use Rattle.c_state.specs.declared.space.Event.{Event}
-use Rattle.c_state.specs.declared.tree.CFile.{CFile}
-use Rattle.c_state.specs.declared.state.FaultKind.{FaultKind}
-use Rattle.c_state.specs.declared.state.Step.TheVariants as step
-use Rattle.c_state.specs.State.{linked}
-use Rattle.c_state.specs.Machine.{c_step, c_steps, c_events}
-use Rattle.c_state.specs.Honest.{IsHonest}
+use Rattle.thin_state.specs.declared.space.Entry.{Entry}
+use Rattle.thin_state.specs.declared.space.Event.{Event}
+use Rattle.thin_state.specs.declared.tree.CFile.{CFile}
+use Rattle.thin_state.specs.declared.state.FaultKind.{FaultKind}
+use Rattle.thin_state.specs.declared.state.Step.TheVariants as step
+use Rattle.thin_state.specs.State.{linked}
+use Rattle.thin_state.specs.Machine.{c_step, c_steps, c_events}
+use Rattle.thin_state.specs.Honest.{IsHonest}
 use Rattle.cy_mean.specs.Source.{Sources}
 use Rattle.cy_mean.specs.Meaning.{source_events}
 

@@ -1,7 +1,7 @@
 -- The trees of the sources, as far as the thin files go.
 use Rattle.std.specs.Prelude.{ℕ, List, [], ◌∷◌}
-use Rattle.c_state.specs.declared.space.BinaryOp.{BinaryOp}
-use Rattle.c_state.specs.declared.space.BinaryOp.TheVariants as binary
+use Rattle.thin_state.specs.declared.space.BinaryOp.{BinaryOp}
+use Rattle.thin_state.specs.declared.space.BinaryOp.TheVariants as binary
 use Rattle.cy_mean.specs.declared.ThinFunction.{ThinFunction}
 
 -- an expression: a name, or two operands and the operator between them (Cython documentation, Language Basics, "Statements and expressions")

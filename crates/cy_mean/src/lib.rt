@@ -3,7 +3,7 @@
 
 mod laws;
 
-use c_state::Bytes;
+use c_token::Bytes;
 pub use laws::{
     c_events_end_once, more_budget_adds_events, more_steps_add_events, source_events_end_once,
 };

@@ -1,8 +1,8 @@
 -- What a build leaves reads back.
 use Rattle.std.proofs.Common.{◌≡◌, ℕ, List, length, Option, Some, None, true, sym, subst}
 use Rattle.std.specs.Prelude.{IsSomeAnd}
-use Rattle.c_state.specs.CReading.{c_reading}
-use Rattle.c_state.specs.declared.CFile.{CFile}
+use Rattle.thin_state.specs.CReading.{c_reading}
+use Rattle.thin_state.specs.declared.CFile.{CFile}
 use Rattle.cy_io.specs.Told.{FileMap, BothTold}
 use Rattle.cy_mean.specs.declared.ThinFunction.{ThinFunction}
 use Rattle.thin_source.specs.Thin.{IsThin}
@@ -11,7 +11,7 @@ use Rattle.thin_source.specs.Thin.{IsIdentifier}
 use Rattle.cyc_top.specs.Build.{header_name, c_name, header_text, module_text, AreWritten, Holds, IsBuilt, IsSoundlyBuilt}
 use Rattle.thin_sound.proofs.InForm.{thin_in_form}
 use Rattle.thin_sound.proofs.ThinSound.Theorem.{sound}
-use Rattle.c_print.proofs.ReadsBack.{file_reads}
+use Rattle.thin_print.proofs.ReadsBack.{file_reads}
 
 held : (files : FileMap) (name text : List ℕ) (tree : CFile) → files name ≡ Some text → c_reading text tree.items true → Holds files name tree
 held files name text tree e reading =

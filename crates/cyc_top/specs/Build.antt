@@ -1,12 +1,12 @@
 -- What a build leaves among the files. The project's own.
 use Rattle.std.specs.Prelude.{◌≡◌, ◌≢◌, ◌⊎◌, ℕ, List, [], ◌∷◌, ◌++◌, length, codes, Option, Some, IfSome, IsSomeAnd, true}
-use Rattle.c_state.specs.CReading.{c_reading}
-use Rattle.c_state.specs.declared.CFile.{CFile}
+use Rattle.thin_state.specs.CReading.{c_reading}
+use Rattle.thin_state.specs.declared.CFile.{CFile}
 use Rattle.cy_io.specs.Told.{FileMap, BothTold, SameElsewhere, IsWritten}
 use Rattle.cy_mean.specs.declared.ThinFunction.{ThinFunction}
 use Rattle.cy_mean.specs.Source.{thin_set}
 use Rattle.cy_mean.specs.Sound.{IsSound}
-use Rattle.c_print.specs.CText.{file_text}
+use Rattle.thin_print.specs.CText.{file_text}
 use Rattle.thin_source.specs.Thin.{IsThin, thin_text}
 use Rattle.thin_code.specs.ThinC.{header_items, module_items}
 

@@ -8,10 +8,10 @@ ghost use Rattle.cyc_top.specs.Statuses.{OnVerdict, UnlessWriting};
 
 use crate::command::Build;
 use crate::status::Status;
-use c_print::print;
 use cy_base::OutOfMemory;
 use cy_io::{Files, ReadAnswer, WriteAnswer};
 use std::alloc::Global;
+use thin_print::print;
 use thin_sound::thin;
 
 // One more than a file of sources may have.

@@ -1,12 +1,13 @@
 //! The C of a thin function of two parameters, with one change in its body.
 use crate::long;
 use anyhow::{Result, anyhow};
-use c_state::{
-    ApiRow, BinaryOp, Bytes, CFile, CFunction, CHead, CItem, CStmt, CType, CValue, Comparison,
-    Declaration, Exception, InitialValue, Line, Parameter, Place, Target, Variable,
-};
+use c_token::{Bytes, Exception};
 use sqlite_items::Items;
 use std::alloc::Global;
+use thin_state::{
+    ApiRow, BinaryOp, CFile, CFunction, CHead, CItem, CStmt, CType, CValue, Comparison,
+    Declaration, InitialValue, Line, Parameter, Place, Target, Variable,
+};
 
 // The place of the function among the items of the module's file.
 const FUNCTION_PLACE: usize = 5;

@@ -1,11 +1,11 @@
 //! Functions of two parameters that run for ever: one goes through its labels and variables, one asks operations.
 use anyhow::Result;
-use c_state::{
+use sqlite_items::Items;
+use std::alloc::Global;
+use thin_state::{
     ApiRow, BinaryOp, CFunction, CHead, CStmt, CType, CValue, Declaration, InitialValue, Line,
     Parameter, Target, Variable,
 };
-use sqlite_items::Items;
-use std::alloc::Global;
 
 // `L3: v3 = v2; goto L4;`
 fn put_block(lines: &mut Items<Line>, label: u32, before: u32, next: u32) -> Result<()> {

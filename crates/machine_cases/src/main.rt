@@ -10,12 +10,12 @@ mod read;
 mod show;
 
 use anyhow::{Result, anyhow};
-use c_mach::Machine;
-use c_state::{Entry, Event, Step};
 use std::alloc::Global;
 use std::rt::Runtime;
 use std::{env, fs};
+use thin_mach::Machine;
 use thin_sound::thin;
+use thin_state::{Entry, Event, Step};
 
 // More steps than any case takes.
 const MOST_STEPS: u64 = 1_000;

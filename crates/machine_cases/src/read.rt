@@ -1,8 +1,9 @@
 //! Scripts of the cases: entries with ` / ` between them.
 use anyhow::{Result, anyhow, bail};
-use c_state::{Bytes, Callee, Entry, FunctionPath, Obj};
+use c_token::Bytes;
 use sqlite_items::Items;
 use std::alloc::Global;
+use thin_state::{Callee, Entry, FunctionPath, Obj};
 
 fn object(word: &str) -> Result<Obj> {
     let number = word.get(1..).and_then(|digits| digits.parse::<u32>().ok());

@@ -1,7 +1,8 @@
 //! The lines of a trace.
 use anyhow::Result;
-use c_state::{Answer, Callee, Event, Exception, FaultKind, Obj, Op, Step};
+use c_token::Exception;
 use std::alloc::Global;
+use thin_state::{Answer, Callee, Event, FaultKind, Obj, Op, Step};
 
 fn exception(kind: Exception) -> &'static str {
     match kind {

@@ -2,31 +2,31 @@
 use Rattle.std.specs.Prelude.{ℕ, List, [], ◌∷◌, Option, Some, None, unwrap_or, length, map, replicate, ◌++◌, codes}
 use Rattle.std.specs.List.{position, range_with_len}
 use Rattle.std.specs.Str.{bytes_eq}
-use Rattle.c_state.specs.declared.BinaryOp.TheVariants as op
-use Rattle.c_state.specs.declared.Exception.TheVariants as exception
-use Rattle.c_state.specs.declared.CType.TheVariants as type
-use Rattle.c_state.specs.declared.Variable.{Variable}
-use Rattle.c_state.specs.declared.Variable.TheVariants as variable
-use Rattle.c_state.specs.declared.Place.{Place}
-use Rattle.c_state.specs.declared.Place.TheVariants as place
-use Rattle.c_state.specs.declared.FunctionName.TheVariants as function
-use Rattle.c_state.specs.declared.ApiRow.{ApiRow}
-use Rattle.c_state.specs.declared.ApiRow.TheVariants as row
-use Rattle.c_state.specs.declared.CValue.{CValue}
-use Rattle.c_state.specs.declared.CValue.TheVariants as value
-use Rattle.c_state.specs.declared.Comparison.TheVariants as comparison
-use Rattle.c_state.specs.declared.Target.TheVariants as target
-use Rattle.c_state.specs.declared.CStmt.TheVariants as stmt
-use Rattle.c_state.specs.declared.Line.{Line}
-use Rattle.c_state.specs.declared.Line.TheVariants as line
-use Rattle.c_state.specs.declared.InitialValue.TheVariants as initial
-use Rattle.c_state.specs.declared.Declaration.{Declaration}
-use Rattle.c_state.specs.declared.Parameter.{Parameter}
-use Rattle.c_state.specs.declared.CHead.TheVariants as head
-use Rattle.c_state.specs.declared.CFunction.{CFunction}
-use Rattle.c_state.specs.declared.CItem.{CItem}
-use Rattle.c_state.specs.declared.CItem.TheVariants as item
-use Rattle.c_state.specs.declared.CFile.{CFile}
+use Rattle.thin_state.specs.declared.BinaryOp.TheVariants as op
+use Rattle.thin_state.specs.declared.Exception.TheVariants as exception
+use Rattle.thin_state.specs.declared.CType.TheVariants as type
+use Rattle.thin_state.specs.declared.Variable.{Variable}
+use Rattle.thin_state.specs.declared.Variable.TheVariants as variable
+use Rattle.thin_state.specs.declared.Place.{Place}
+use Rattle.thin_state.specs.declared.Place.TheVariants as place
+use Rattle.thin_state.specs.declared.FunctionName.TheVariants as function
+use Rattle.thin_state.specs.declared.ApiRow.{ApiRow}
+use Rattle.thin_state.specs.declared.ApiRow.TheVariants as row
+use Rattle.thin_state.specs.declared.CValue.{CValue}
+use Rattle.thin_state.specs.declared.CValue.TheVariants as value
+use Rattle.thin_state.specs.declared.Comparison.TheVariants as comparison
+use Rattle.thin_state.specs.declared.Target.TheVariants as target
+use Rattle.thin_state.specs.declared.CStmt.TheVariants as stmt
+use Rattle.thin_state.specs.declared.Line.{Line}
+use Rattle.thin_state.specs.declared.Line.TheVariants as line
+use Rattle.thin_state.specs.declared.InitialValue.TheVariants as initial
+use Rattle.thin_state.specs.declared.Declaration.{Declaration}
+use Rattle.thin_state.specs.declared.Parameter.{Parameter}
+use Rattle.thin_state.specs.declared.CHead.TheVariants as head
+use Rattle.thin_state.specs.declared.CFunction.{CFunction}
+use Rattle.thin_state.specs.declared.CItem.{CItem}
+use Rattle.thin_state.specs.declared.CItem.TheVariants as item
+use Rattle.thin_state.specs.declared.CFile.{CFile}
 use Rattle.cy_mean.specs.declared.ThinFunction.{ThinFunction}
 use Rattle.cy_mean.specs.Texts.{arity_text}
 

@@ -5,15 +5,15 @@ ghost use Rattle.std.specs.Prelude.{◌≡◌, ◌+◌, ◌^◌, ◌<◌, ◌≤
 ghost use Rattle.thin_code.specs.ThinC.{numbers_below, object_parameter, null_object, leave_if_null, sum_lines, sum_function, wrong_count, wrapper_lines, wrapper_function, methods_item, place_items, header_items, module_items, thin_files, position_of, number_of, ask, temporary, keep, module_lines, builtins_lines, ready_lines, initialiser_lines, initialiser_function};
 ghost use Rattle.cy_mean.specs.Texts.{arity_text};
 
-use c_state::{
-    ApiRow, BinaryOp, Bytes, CFile, CFunction, CHead, CItem, CStmt, CType, CValue, Comparison,
-    Declaration, Exception, FunctionName, InitialValue, Line, MethodRow, Parameter, Place, Target,
-    Variable,
-};
+use c_token::{Bytes, Exception};
 use cy_mean::ThinFunction;
 use itoa::Buffer;
 use sqlite_items::Items;
 use std::alloc::{AllocError, Global};
+use thin_state::{
+    ApiRow, BinaryOp, CFile, CFunction, CHead, CItem, CStmt, CType, CValue, Comparison,
+    Declaration, FunctionName, InitialValue, Line, MethodRow, Parameter, Place, Target, Variable,
+};
 
 fn null_object(variable: Variable) -> Declaration
     ensures { result ≡ null_object variable }

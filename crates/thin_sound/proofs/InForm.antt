@@ -8,14 +8,15 @@ use Rattle.std.proofs.lemmas.Bool.{false≢true}
 use Rattle.std.proofs.lemmas.Bool.Decides.{nat_tests}
 use Rattle.std.proofs.lemmas.List.Elements.{recursion_from_All}
 use Rattle.std.proofs.lemmas.List.Quantifiers.{position-Some}
-use Rattle.c_state.specs.CTokens.{is_word_byte}
-use Rattle.c_state.specs.CReading.{AreWordBytes, IsNumberInForm, IsStringInForm, IsNameInForm, IsValueInForm, IsLineInForm, IsParameterInForm, IsFunctionInForm, IsMethodInForm, IsItemInForm, IsFileInForm}
-use Rattle.c_state.proofs.Tokens.{decimal_name, name_words}
-use Rattle.c_state.specs.declared.Variable.TheVariants as variable
-use Rattle.c_state.specs.declared.CValue.TheVariants as value
-use Rattle.c_state.specs.declared.Comparison.TheVariants as comparison
-use Rattle.c_state.specs.declared.CStmt.TheVariants as stmt
-use Rattle.c_state.specs.declared.Line.TheVariants as line
+use Rattle.c_token.specs.CTokens.{is_word_byte}
+use Rattle.c_token.specs.Spelled.{AreWordBytes, IsNumberInForm, IsNameInForm}
+use Rattle.thin_state.specs.CReading.{IsStringInForm, IsValueInForm, IsLineInForm, IsParameterInForm, IsFunctionInForm, IsMethodInForm, IsItemInForm, IsFileInForm}
+use Rattle.c_token.proofs.Tokens.{decimal_name, name_words}
+use Rattle.thin_state.specs.declared.Variable.TheVariants as variable
+use Rattle.thin_state.specs.declared.CValue.TheVariants as value
+use Rattle.thin_state.specs.declared.Comparison.TheVariants as comparison
+use Rattle.thin_state.specs.declared.CStmt.TheVariants as stmt
+use Rattle.thin_state.specs.declared.Line.TheVariants as line
 use Rattle.cy_mean.specs.declared.ThinFunction.{ThinFunction}
 use Rattle.cy_mean.specs.Texts.{arity_text}
 use Rattle.thin_source.specs.Thin.{IsThin, is_name_start, is_name_byte}

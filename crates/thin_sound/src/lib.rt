@@ -4,19 +4,19 @@
 mod laws;
 
 ghost use Rattle.std.specs.Prelude.{◌≡◌, ◌≢◌, IfOk, IfSome, All, None};
-ghost use Rattle.c_state.specs.CReading.{IsFileInForm};
+ghost use Rattle.thin_state.specs.CReading.{IsFileInForm};
 ghost use Rattle.cy_mean.specs.declared.ThinFunction.{ThinFunction};
 ghost use Rattle.cy_mean.specs.Source.{thin_set};
 ghost use Rattle.cy_mean.specs.Sound.{IsSound};
 ghost use Rattle.thin_source.specs.Thin.{IsIdentifier, IsThin, thin_text};
 ghost use Rattle.thin_code.specs.ThinC.{thin_files};
 
-use c_state::CFile;
 use cy_base::OutOfMemory;
 pub use laws::thin_is_sound;
 use std::alloc::Global;
 use thin_code::compile;
 use thin_source::parse_thin;
+use thin_state::CFile;
 
 /// The C trees of a thin file of the module `name`: the header and the module's own file.
 /// None where the bytes are no thin file; the error only where memory is wanting.

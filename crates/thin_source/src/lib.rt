@@ -5,7 +5,7 @@ ghost use Rattle.std.specs.Prelude.{◌≡◌, ◌≢◌, ℕ, ◌+◌, ◌<◌,
 ghost use Rattle.cy_mean.specs.declared.ThinFunction.{ThinFunction};
 ghost use Rattle.thin_source.specs.Thin.{IsName, IsParameterName, IsParameterList, IsThin, is_name_byte, is_name_start, joined, number_words, reserved_words, thin_text};
 
-use c_state::Bytes;
+use c_token::Bytes;
 use cy_base::OutOfMemory;
 use cy_mean::ThinFunction;
 use sqlite_items::Items;

@@ -1,7 +1,7 @@
 use Rattle.std.proofs.Common.{ℕ, ◌∷◌, [], ◌++◌, List, sym, ap, ◌∙◌, zero-add}
 use Rattle.std.proofs.lemmas.List.FromFn.{map-range_with_len_more}
-use Rattle.c_state.specs.declared.CValue.{CValue}
-use Rattle.c_state.specs.declared.CValue.TheVariants as value
+use Rattle.thin_state.specs.declared.CValue.{CValue}
+use Rattle.thin_state.specs.declared.CValue.TheVariants as value
 use Rattle.thin_code.proofs.arguments.Goals as goal
 
 pub loop-number-preserved : goal.loop-number-preserved

@@ -1,6 +1,6 @@
 use Rattle.std.proofs.Common.{◌≡◌, map}
 use Rattle.std.specs.List.{range_with_len}
-use Rattle.c_state.specs.declared.CValue.TheVariants as value
+use Rattle.thin_state.specs.declared.CValue.TheVariants as value
 use Rattle.thin_code.proofs.arguments.Given as goal
 
 abbrev pub invariant-loop-number : goal.invariant-loop-number

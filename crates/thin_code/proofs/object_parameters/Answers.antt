@@ -1,6 +1,6 @@
 use Rattle.std.proofs.Common.{◌∷◌, [], ◌++◌, List, sym, ap, ◌∙◌, zero-add}
 use Rattle.std.proofs.lemmas.List.FromFn.{map-range_with_len_more}
-use Rattle.c_state.specs.declared.Parameter.{Parameter}
+use Rattle.thin_state.specs.declared.Parameter.{Parameter}
 use Rattle.thin_code.specs.ThinC.{object_parameter}
 use Rattle.thin_code.proofs.object_parameters.Goals as goal
 

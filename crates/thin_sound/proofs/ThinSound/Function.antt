@@ -3,44 +3,44 @@ use Rattle.std.proofs.Common.{◌≡◌, ℕ, ◌≤◌, ◌<◌, Bool, true, fa
 use Rattle.std.proofs.lemmas.Bool.{eqb-true}
 use Rattle.std.specs.Prelude.{ℤ, nat_eq, pos, if◌then◌else◌}
 use Rattle.std.specs.Str.{bytes_eq}
-use Rattle.c_state.specs.declared.space.BinaryOp.TheVariants as binary
-use Rattle.c_state.specs.declared.space.Exception.TheVariants as exception
-use Rattle.c_state.specs.declared.space.Obj.{Obj}
-use Rattle.c_state.specs.declared.space.Obj.TheVariants as obj
-use Rattle.c_state.specs.declared.space.Callee.TheVariants as callee
-use Rattle.c_state.specs.declared.space.Op.{Op}
-use Rattle.c_state.specs.declared.space.Op.TheVariants as op
-use Rattle.c_state.specs.declared.space.Answer.{Answer}
-use Rattle.c_state.specs.declared.space.Event.TheVariants as event
-use Rattle.c_state.specs.declared.tree.Variable.{Variable}
-use Rattle.c_state.specs.declared.tree.Variable.TheVariants as variable
-use Rattle.c_state.specs.declared.tree.Place.{Place}
-use Rattle.c_state.specs.declared.tree.Place.TheVariants as place
-use Rattle.c_state.specs.declared.tree.FunctionName.TheVariants as function
-use Rattle.c_state.specs.declared.tree.ApiRow.TheVariants as row
-use Rattle.c_state.specs.declared.tree.CValue.TheVariants as operand
-use Rattle.c_state.specs.declared.tree.Target.TheVariants as target
-use Rattle.c_state.specs.declared.tree.CStmt.TheVariants as stmt
-use Rattle.c_state.specs.declared.tree.Line.{Line}
-use Rattle.c_state.specs.declared.tree.Line.TheVariants as line
-use Rattle.c_state.specs.declared.tree.CFile.{CFile}
-use Rattle.c_state.specs.declared.state.FaultKind.TheVariants as fault
-use Rattle.c_state.specs.declared.state.Kind.TheVariants as kind
-use Rattle.c_state.specs.declared.state.Value.{Value}
-use Rattle.c_state.specs.declared.state.Value.TheVariants as value
-use Rattle.c_state.specs.declared.state.Reading.{Reading}
-use Rattle.c_state.specs.declared.state.Spot.{Spot}
-use Rattle.c_state.specs.declared.state.Entered.TheVariants as entered
-use Rattle.c_state.specs.declared.state.Doing.{Doing}
-use Rattle.c_state.specs.declared.state.Doing.TheVariants as doing
-use Rattle.c_state.specs.declared.state.Course.TheVariants as course
-use Rattle.c_state.specs.Objects.{same_obj, NewResult, Gave, Raises, new_result, sure_result}
-use Rattle.c_state.specs.World.{World, first_world, say}
-use Rattle.c_state.specs.State.{Frame, CState, has, held, lookup}
-use Rattle.c_state.specs.Reads.{cell_reading, one_more_reading, some_reading, frame_of, wrapper_of, entered_in}
-use Rattle.c_state.specs.Statements.{Went, need_some, api, call, branch, same_int}
-use Rattle.c_state.specs.Outside.{deliver, deliver_new, entered_frame}
-use Rattle.c_state.specs.Machine.{move}
+use Rattle.thin_state.specs.declared.space.BinaryOp.TheVariants as binary
+use Rattle.c_token.specs.declared.exception.Exception.TheVariants as exception
+use Rattle.thin_state.specs.declared.space.Obj.{Obj}
+use Rattle.thin_state.specs.declared.space.Obj.TheVariants as obj
+use Rattle.thin_state.specs.declared.space.Callee.TheVariants as callee
+use Rattle.thin_state.specs.declared.space.Op.{Op}
+use Rattle.thin_state.specs.declared.space.Op.TheVariants as op
+use Rattle.thin_state.specs.declared.space.Answer.{Answer}
+use Rattle.thin_state.specs.declared.space.Event.TheVariants as event
+use Rattle.thin_state.specs.declared.tree.Variable.{Variable}
+use Rattle.thin_state.specs.declared.tree.Variable.TheVariants as variable
+use Rattle.thin_state.specs.declared.tree.Place.{Place}
+use Rattle.thin_state.specs.declared.tree.Place.TheVariants as place
+use Rattle.thin_state.specs.declared.tree.FunctionName.TheVariants as function
+use Rattle.thin_state.specs.declared.tree.ApiRow.TheVariants as row
+use Rattle.thin_state.specs.declared.tree.CValue.TheVariants as operand
+use Rattle.thin_state.specs.declared.tree.Target.TheVariants as target
+use Rattle.thin_state.specs.declared.tree.CStmt.TheVariants as stmt
+use Rattle.thin_state.specs.declared.tree.Line.{Line}
+use Rattle.thin_state.specs.declared.tree.Line.TheVariants as line
+use Rattle.thin_state.specs.declared.tree.CFile.{CFile}
+use Rattle.thin_state.specs.declared.state.FaultKind.TheVariants as fault
+use Rattle.thin_state.specs.declared.state.Kind.TheVariants as kind
+use Rattle.thin_state.specs.declared.state.Value.{Value}
+use Rattle.thin_state.specs.declared.state.Value.TheVariants as value
+use Rattle.thin_state.specs.declared.state.Reading.{Reading}
+use Rattle.thin_state.specs.declared.state.Spot.{Spot}
+use Rattle.thin_state.specs.declared.state.Entered.TheVariants as entered
+use Rattle.thin_state.specs.declared.state.Doing.{Doing}
+use Rattle.thin_state.specs.declared.state.Doing.TheVariants as doing
+use Rattle.thin_state.specs.declared.state.Course.TheVariants as course
+use Rattle.thin_state.specs.Objects.{same_obj, NewResult, Gave, Raises, new_result, sure_result}
+use Rattle.thin_state.specs.World.{World, first_world, say}
+use Rattle.thin_state.specs.State.{Frame, CState, has, held, lookup}
+use Rattle.thin_state.specs.Reads.{cell_reading, one_more_reading, some_reading, frame_of, wrapper_of, entered_in}
+use Rattle.thin_state.specs.Statements.{Went, need_some, api, call, branch, same_int}
+use Rattle.thin_state.specs.Outside.{deliver, deliver_new, entered_frame}
+use Rattle.thin_state.specs.Machine.{move}
 use Rattle.cy_mean.specs.declared.ThinFunction.{ThinFunction}
 use Rattle.cy_mean.specs.Texts.{arity_text}
 use Rattle.cy_mean.specs.Source.{Expression, Named, Binary, Statement, Return, thin_function, thin_set}

@@ -2,35 +2,35 @@
 use Rattle.std.proofs.Common.{◌≡◌, ℕ, zero, suc, ◌≤◌, Bool, true, false, ◌||◌, List, [], ◌∷◌, Option, Some, None, refl, ap, subst, arith}
 use Rattle.std.specs.Prelude.{if◌then◌else◌, is_some, pos, codes}
 use Rattle.std.specs.Str.{bytes_eq}
-use Rattle.c_state.specs.declared.space.Obj.{Obj}
-use Rattle.c_state.specs.declared.space.Callee.TheVariants as callee
-use Rattle.c_state.specs.declared.space.Entry.{Entry}
-use Rattle.c_state.specs.declared.space.Op.{Op}
-use Rattle.c_state.specs.declared.space.Op.TheVariants as op
-use Rattle.c_state.specs.declared.space.Event.TheVariants as event
-use Rattle.c_state.specs.declared.tree.Variable.{Variable}
-use Rattle.c_state.specs.declared.tree.Variable.TheVariants as variable
-use Rattle.c_state.specs.declared.tree.Place.{Place}
-use Rattle.c_state.specs.declared.tree.Place.TheVariants as place
-use Rattle.c_state.specs.declared.tree.ApiRow.{ApiRow}
-use Rattle.c_state.specs.declared.tree.ApiRow.TheVariants as row
-use Rattle.c_state.specs.declared.tree.Line.{Line}
-use Rattle.c_state.specs.declared.tree.CFile.{CFile}
-use Rattle.c_state.specs.declared.state.FaultKind.TheVariants as fault
-use Rattle.c_state.specs.declared.state.Kind.TheVariants as kind
-use Rattle.c_state.specs.declared.state.Value.{Value}
-use Rattle.c_state.specs.declared.state.Value.TheVariants as value
-use Rattle.c_state.specs.declared.state.Spot.{Spot}
-use Rattle.c_state.specs.declared.state.Entered.TheVariants as entered
-use Rattle.c_state.specs.declared.state.Doing.TheVariants as doing
-use Rattle.c_state.specs.declared.state.Course.TheVariants as course
-use Rattle.c_state.specs.Objects.{same_obj, NewResult, Gave, Raises, new_result, sure_result}
-use Rattle.c_state.specs.World.{World, first_world, say}
-use Rattle.c_state.specs.State.{put_to, Frame, CState, lose, held, linked}
-use Rattle.c_state.specs.Reads.{frame_of, entered_in}
-use Rattle.c_state.specs.Statements.{Went, need}
-use Rattle.c_state.specs.Outside.{deliver, deliver_by, deliver_new, How, NewReference, how}
-use Rattle.c_state.specs.Machine.{move}
+use Rattle.thin_state.specs.declared.space.Obj.{Obj}
+use Rattle.thin_state.specs.declared.space.Callee.TheVariants as callee
+use Rattle.thin_state.specs.declared.space.Entry.{Entry}
+use Rattle.thin_state.specs.declared.space.Op.{Op}
+use Rattle.thin_state.specs.declared.space.Op.TheVariants as op
+use Rattle.thin_state.specs.declared.space.Event.TheVariants as event
+use Rattle.thin_state.specs.declared.tree.Variable.{Variable}
+use Rattle.thin_state.specs.declared.tree.Variable.TheVariants as variable
+use Rattle.thin_state.specs.declared.tree.Place.{Place}
+use Rattle.thin_state.specs.declared.tree.Place.TheVariants as place
+use Rattle.thin_state.specs.declared.tree.ApiRow.{ApiRow}
+use Rattle.thin_state.specs.declared.tree.ApiRow.TheVariants as row
+use Rattle.thin_state.specs.declared.tree.Line.{Line}
+use Rattle.thin_state.specs.declared.tree.CFile.{CFile}
+use Rattle.thin_state.specs.declared.state.FaultKind.TheVariants as fault
+use Rattle.thin_state.specs.declared.state.Kind.TheVariants as kind
+use Rattle.thin_state.specs.declared.state.Value.{Value}
+use Rattle.thin_state.specs.declared.state.Value.TheVariants as value
+use Rattle.thin_state.specs.declared.state.Spot.{Spot}
+use Rattle.thin_state.specs.declared.state.Entered.TheVariants as entered
+use Rattle.thin_state.specs.declared.state.Doing.TheVariants as doing
+use Rattle.thin_state.specs.declared.state.Course.TheVariants as course
+use Rattle.thin_state.specs.Objects.{same_obj, NewResult, Gave, Raises, new_result, sure_result}
+use Rattle.thin_state.specs.World.{World, first_world, say}
+use Rattle.thin_state.specs.State.{put_to, Frame, CState, lose, held, linked}
+use Rattle.thin_state.specs.Reads.{frame_of, entered_in}
+use Rattle.thin_state.specs.Statements.{Went, need}
+use Rattle.thin_state.specs.Outside.{deliver, deliver_by, deliver_new, How, NewReference, how}
+use Rattle.thin_state.specs.Machine.{move}
 use Rattle.cy_mean.specs.declared.ThinFunction.{ThinFunction}
 use Rattle.cy_mean.specs.Source.{Module, thin_function, thin_set}
 use Rattle.cy_mean.specs.Meaning.{ReadyModule, SourceState, Outcome, Awaiter, give, give_new, give_sure, operate, operate_sure, with_builtins, with_import, with_dictionary, with_module, initialise, add_ready, tell, initialised, not_initialised, after_initialise, initialise_all, await_within, top_within, run_within}

@@ -5,18 +5,18 @@ use Rattle.std.specs.List.{position_or_len, range_with_len}
 use Rattle.std.specs.Str.{bytes_eq}
 use Rattle.std.proofs.lemmas.Bool.{eqb-true, lt-ltb, false≢true}
 use Rattle.std.proofs.lemmas.Slice.Eq.{bytes_eq-Decides}
-use Rattle.c_state.specs.declared.space.Obj.{Obj}
-use Rattle.c_state.specs.declared.tree.Variable.TheVariants as variable
-use Rattle.c_state.specs.declared.tree.CValue.TheVariants as operand
-use Rattle.c_state.specs.declared.tree.CFile.{CFile}
-use Rattle.c_state.specs.declared.state.Kind.{Kind}
-use Rattle.c_state.specs.declared.state.Kind.TheVariants as kind
-use Rattle.c_state.specs.declared.state.Value.TheVariants as value
-use Rattle.c_state.specs.declared.state.Reading.{Reading}
-use Rattle.c_state.specs.declared.state.Cell.{Cell}
-use Rattle.c_state.specs.Objects.{same_obj}
-use Rattle.c_state.specs.State.{lookup, has, Frame, CState}
-use Rattle.c_state.specs.Reads.{some_reading, cell_reading, object_at, read, read_each, one_more_reading, any_module_variable, loans_after, parameter_kinds_of, plain_cells}
+use Rattle.thin_state.specs.declared.space.Obj.{Obj}
+use Rattle.thin_state.specs.declared.tree.Variable.TheVariants as variable
+use Rattle.thin_state.specs.declared.tree.CValue.TheVariants as operand
+use Rattle.thin_state.specs.declared.tree.CFile.{CFile}
+use Rattle.thin_state.specs.declared.state.Kind.{Kind}
+use Rattle.thin_state.specs.declared.state.Kind.TheVariants as kind
+use Rattle.thin_state.specs.declared.state.Value.TheVariants as value
+use Rattle.thin_state.specs.declared.state.Reading.{Reading}
+use Rattle.thin_state.specs.declared.state.Cell.{Cell}
+use Rattle.thin_state.specs.Objects.{same_obj}
+use Rattle.thin_state.specs.State.{lookup, has, Frame, CState}
+use Rattle.thin_state.specs.Reads.{some_reading, cell_reading, object_at, read, read_each, one_more_reading, any_module_variable, loans_after, parameter_kinds_of, plain_cells}
 use Rattle.cy_mean.specs.Meaning.{local_of, bind_all}
 use Rattle.cy_mean.proofs.Same.{nat_same, obj_same, or_left, or_right}
 use Rattle.cy_mean.proofs.Statements.{object_readings, object_values, object_kinds}

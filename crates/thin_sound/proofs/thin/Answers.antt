@@ -1,7 +1,7 @@
 use Rattle.std.proofs.Common.{sym, subst, List, All}
 use Rattle.std.proofs.lemmas.List.Elements.{All-from_recursion}
-use Rattle.c_state.specs.CReading.{IsFileInForm}
-use Rattle.c_state.specs.declared.CFile.{CFile}
+use Rattle.thin_state.specs.CReading.{IsFileInForm}
+use Rattle.thin_state.specs.declared.CFile.{CFile}
 use Rattle.thin_code.specs.ThinC.{thin_files}
 use Rattle.cy_mean.specs.Source.{thin_set}
 use Rattle.cy_mean.specs.Sound.{IsSound}

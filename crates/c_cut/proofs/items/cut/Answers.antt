@@ -1,8 +1,8 @@
 use Rattle.std.proofs.Common.{◌≡◌, ◌++◌, List, [], ◌∷◌, Some, None, ap, sym, ◌∙◌}
 use Rattle.std.specs.Option.{option_map}
-use Rattle.c_state.specs.CTokens.{CToken}
-use Rattle.c_state.specs.CReading as spec
-use Rattle.c_state.specs.CReading.{item_start, items_from}
+use Rattle.c_token.specs.CTokens.{CToken}
+use Rattle.c_token.specs.Cutting as spec
+use Rattle.c_token.specs.Cutting.{item_start, items_from}
 use Rattle.c_cut.specs.declared.token.Token.{Token}
 use Rattle.c_cut.specs.Shown.{item_shown, items_shown, place_shown, token_shown}
 use Rattle.c_cut.proofs.Cutting.{onto, goes-on, item-ends, token-more, item-more, items-more, each-itself, all-cut}

@@ -1,6 +1,6 @@
 use Rattle.std.proofs.Common.{◌≡◌, ◌++◌, List}
-use Rattle.c_state.specs.CTokens.{CToken}
-use Rattle.c_state.specs.CReading.{item_start, items_from}
+use Rattle.c_token.specs.CTokens.{CToken}
+use Rattle.c_token.specs.Cutting.{item_start, items_from}
 use Rattle.c_cut.specs.Shown.{item_shown, items_shown, place_shown}
 use Rattle.c_cut.proofs.Cutting.{onto}
 use Rattle.c_cut.proofs.items.cut.Given as goal

@@ -1,5 +1,5 @@
 use Rattle.std.proofs.Common.{◌≡◌, List, Some, false, sym, ap, subst, ◌∙◌}
-use Rattle.c_state.specs.CTokens.{CToken}
+use Rattle.c_token.specs.CTokens.{CToken}
 use Rattle.c_tree.specs.declared.item.Declaration.{Declaration}
 use Rattle.c_tree.specs.Forms.{IsDeclaration}
 use Rattle.c_tree.specs.Items.{declaration_spelling}

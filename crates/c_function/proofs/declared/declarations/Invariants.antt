@@ -1,6 +1,6 @@
 use Rattle.std.proofs.Common.{◌≡◌, List, length}
 use Rattle.std.specs.Prelude.{false}
-use Rattle.c_state.specs.CTokens.{CToken}
+use Rattle.c_token.specs.CTokens.{CToken}
 use Rattle.c_tree.specs.Forms.{IsDeclaration}
 use Rattle.c_tree.specs.Items.{declaration_spelling}
 use Rattle.c_input.proofs.Lists.{IsRead}

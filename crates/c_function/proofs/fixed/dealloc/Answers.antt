@@ -1,5 +1,5 @@
 use Rattle.std.proofs.Common.{◌≡◌, ◌++◌, ◌∷◌, List, Some, ap}
-use Rattle.c_state.specs.CTokens.{CToken}
+use Rattle.c_token.specs.CTokens.{CToken}
 use Rattle.c_tree.specs.declared.item.CHead.{CHead}
 use Rattle.c_tree.specs.declared.item.CHead.TheVariants as head
 use Rattle.c_tree.specs.Items.{function_token}

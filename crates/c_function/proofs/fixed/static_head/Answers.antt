@@ -1,5 +1,5 @@
 use Rattle.std.proofs.Common.{◌≡◌, ◌++◌, ◌∷◌, [], List, Some, refl, sym, ◌∙◌}
-use Rattle.c_state.specs.CTokens.{CToken, word, sign}
+use Rattle.c_token.specs.CTokens.{CToken, word, sign}
 use Rattle.c_tree.specs.declared.item.CHead.{CHead}
 use Rattle.c_tree.specs.declared.item.CHead.TheVariants as head
 use Rattle.c_input.proofs.Rows.{same_left}

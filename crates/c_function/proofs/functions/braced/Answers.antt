@@ -1,6 +1,6 @@
 use Rattle.std.proofs.Common.{◌≡◌, ◌++◌, ◌∷◌, [], List, Some, refl, sym, ap, ◌∙◌}
 use Rattle.std.specs.List.{flat_map, AllByRecursion}
-use Rattle.c_state.specs.CTokens.{CToken, sign}
+use Rattle.c_token.specs.CTokens.{CToken, sign}
 use Rattle.c_tree.specs.Forms.{IsDeclaration}
 use Rattle.c_tree.specs.Items.{declaration_spelling, line_spelling}
 use Rattle.c_input.proofs.Rows.{next_one, same_left}

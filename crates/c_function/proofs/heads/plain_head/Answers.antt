@@ -1,7 +1,7 @@
 use Rattle.std.proofs.Common.{◌≡◌, ◌++◌, ◌∷◌, [], List, Some, sym, ap, subst, ◌∙◌}
 use Rattle.std.specs.Prelude.{⊤}
 use Rattle.std.specs.List.{AllByRecursion}
-use Rattle.c_state.specs.CTokens.{CToken}
+use Rattle.c_token.specs.CTokens.{CToken}
 use Rattle.c_tree.specs.declared.item.CHead.{CHead}
 use Rattle.c_tree.specs.declared.value.CResult.{CResult}
 use Rattle.c_tree.specs.Forms.{IsParameter}

@@ -1,5 +1,5 @@
 use Rattle.std.proofs.Common.{◌≡◌, ◌∷◌, ◌++◌, List, decimal}
-use Rattle.c_state.specs.CTokens.{CToken, Word, sign}
+use Rattle.c_token.specs.CTokens.{CToken, Word, sign}
 use Rattle.c_tree.specs.declared.value.CValue.{CValue}
 use Rattle.c_tree.specs.declared.value.CValue.TheVariants as value
 use Rattle.c_tree.specs.declared.name.FixedParameter.TheVariants as fixed

@@ -1,5 +1,5 @@
 use Rattle.std.proofs.Common.{◌∷◌}
-use Rattle.c_state.specs.CTokens.{sign}
+use Rattle.c_token.specs.CTokens.{sign}
 use Rattle.c_tree.specs.declared.name.Variable.TheVariants as variable
 use Rattle.c_item.proofs.typed.place.Goals as goal
 

@@ -1,6 +1,6 @@
 use Rattle.std.proofs.Common.{◌≡◌, ◌++◌, List, Some, refl, sym, subst, ◌∙◌}
 use Rattle.std.specs.Prelude.{⊤, Option}
-use Rattle.c_state.specs.CTokens.{CToken}
+use Rattle.c_token.specs.CTokens.{CToken}
 use Rattle.c_tree.specs.declared.item.CItem.{CItem}
 use Rattle.c_tree.specs.declared.item.CItem.TheVariants as item
 use Rattle.c_tree.specs.declared.name.FunctionName.{FunctionName}

@@ -1,6 +1,6 @@
 use Rattle.std.proofs.Common.{Some, sym, ap, ◌∙◌}
 use Rattle.c_cut.specs.Shown.{token_shown}
-use Rattle.c_state.specs.CTokens.{sign}
+use Rattle.c_token.specs.CTokens.{sign}
 use Rattle.c_table.proofs.Steps.{some_same}
 use Rattle.c_item.proofs.Lasts.{last_shown}
 use Rattle.c_item.proofs.whole.has_body.Goals as goal

@@ -1,6 +1,6 @@
 use Rattle.std.proofs.Common.{◌≡◌, ◌∷◌, List, Some, ◌⊎◌, inl, inr, sym, ap, ◌∙◌}
 use Rattle.std.specs.Prelude.{None, Option, IfSome, true, false}
-use Rattle.c_state.specs.CTokens.{CToken, word}
+use Rattle.c_token.specs.CTokens.{CToken, word}
 use Rattle.c_cut.specs.Shown.{item_shown}
 use Rattle.c_tree.specs.declared.item.CItem.{CItem}
 use Rattle.c_tree.specs.Forms.{IsItem}

@@ -1,5 +1,5 @@
 use Rattle.std.proofs.Common.{◌≡◌, List, ℕ, ap, sym, ◌∙◌, slice_index}
-use Rattle.c_state.specs.CTokens as spec
+use Rattle.c_token.specs.CTokens as spec
 use Rattle.c_lex.specs.Shown.{kind_shown, line_shown}
 use Rattle.c_lex.proofs.Ranges.{range_one}
 use Rattle.c_lex.proofs.lex.begin.Goals as goal

@@ -1,7 +1,7 @@
 use Rattle.std.proofs.Common.{◌≡◌, ◌++◌, List, ℕ, ap, sym, ◌∙◌, subst, length, arith}
 use Rattle.std.specs.Prelude.{slice_range, OnOk}
 use Rattle.std.proofs.lemmas.Grind.{common_steps}
-use Rattle.c_state.specs.CTokens as spec
+use Rattle.c_token.specs.CTokens as spec
 use Rattle.c_cut.specs.Shown.{item_shown}
 use Rattle.c_lex.specs.Shown.{line_shown, mode_shown}
 use Rattle.c_lex.proofs.Steps.{sign_ends_there}

@@ -1,7 +1,7 @@
 use Rattle.std.proofs.Common.{ap, sym, ◌∙◌, slice_index}
 use Rattle.std.specs.Prelude.{slice_range}
 use Rattle.std.proofs.lemmas.Bool.{ne_eqb}
-use Rattle.c_state.specs.CTokens as spec
+use Rattle.c_token.specs.CTokens as spec
 use Rattle.c_lex.proofs.Ranges.{range_more}
 use Rattle.c_lex.proofs.Steps.{header_goes_on}
 use Rattle.c_lex.proofs.lex.in_header.Goals as goal

@@ -1,7 +1,7 @@
 use Rattle.std.proofs.Common.{◌≡◌, List, [], ◌∷◌, ◌++◌, ℕ, ap, sym, ◌∙◌, subst, ◌+◌, slice_index, append-nil, true, false}
 use Rattle.std.specs.Prelude.{slice_range, IfOk, OnOk}
-use Rattle.c_state.specs.CTokens as spec
-use Rattle.c_state.specs.CTokens.{CToken}
+use Rattle.c_token.specs.CTokens as spec
+use Rattle.c_token.specs.CTokens.{CToken}
 use Rattle.c_cut.specs.Shown.{item_shown}
 use Rattle.c_lex.specs.Shown.{line_shown, mode_shown}
 use Rattle.c_lex.proofs.Ranges.{range_more}

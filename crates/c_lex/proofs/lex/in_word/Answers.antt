@@ -1,6 +1,6 @@
 use Rattle.std.proofs.Common.{List, ℕ, ap, sym, ◌∙◌, slice_index}
 use Rattle.std.specs.Prelude.{slice_range}
-use Rattle.c_state.specs.CTokens as spec
+use Rattle.c_token.specs.CTokens as spec
 use Rattle.c_lex.specs.Shown.{line_shown}
 use Rattle.c_lex.proofs.Ranges.{range_more}
 use Rattle.c_lex.proofs.Steps.{word_goes_on}

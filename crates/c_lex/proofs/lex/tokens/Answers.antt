@@ -1,5 +1,5 @@
 use Rattle.std.proofs.Common.{◌≡◌, ◌+◌, ◌++◌, ap, sym, ◌∙◌, length, arith}
-use Rattle.c_state.specs.CTokens.{Between, Fresh, c_tokens, tokens_from, step}
+use Rattle.c_token.specs.CTokens.{Between, Fresh, c_tokens, tokens_from, step}
 use Rattle.c_cut.specs.Shown.{item_shown}
 use Rattle.c_lex.specs.Shown.{mode_shown}
 use Rattle.c_lex.proofs.Steps.{from_start, turned, finished}

@@ -1,5 +1,5 @@
 use Rattle.std.proofs.Common.{◌≡◌, ◌≤◌, ◌++◌, drop}
-use Rattle.c_state.specs.CTokens.{c_tokens, tokens_from}
+use Rattle.c_token.specs.CTokens.{c_tokens, tokens_from}
 use Rattle.c_cut.specs.Shown.{item_shown}
 use Rattle.c_lex.specs.Shown.{mode_shown, start_of}
 use Rattle.c_lex.proofs.lex.tokens.Given as goal

@@ -1,6 +1,6 @@
 use Rattle.std.proofs.Common.{◌≡◌, ◌++◌, ◌∷◌, [], ℕ, List, Some, sym, subst, ◌∙◌}
 use Rattle.std.specs.Prelude.{Option}
-use Rattle.c_state.specs.CTokens.{CToken}
+use Rattle.c_token.specs.CTokens.{CToken}
 use Rattle.c_tree.specs.declared.statement.Argument.{Argument}
 use Rattle.c_tree.specs.declared.statement.Argument.TheVariants as argument
 use Rattle.c_tree.specs.Forms.{IsArgument, IsString}

@@ -1,5 +1,5 @@
 use Rattle.std.proofs.Common.{◌≡◌, ◌∷◌, List, Some, ◌⊎◌, inl, inr, ◌∙◌}
-use Rattle.c_state.specs.CTokens.{CToken}
+use Rattle.c_token.specs.CTokens.{CToken}
 use Rattle.c_tree.specs.declared.statement.BinaryOp.{BinaryOp}
 use Rattle.c_tree.specs.Statements.{op_spelling}
 use Rattle.c_operand.specs.Operators.{IsArithmetic, IsBitwise, IsComparison}

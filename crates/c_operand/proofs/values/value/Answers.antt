@@ -1,6 +1,6 @@
 use Rattle.std.proofs.Common.{◌≡◌, ◌++◌, List, Some, ◌⊎◌, inl, inr, refl}
 use Rattle.std.specs.Prelude.{◌≢◌, slice_get, codes}
-use Rattle.c_state.specs.CTokens.{CToken, sign}
+use Rattle.c_token.specs.CTokens.{CToken, sign}
 use Rattle.c_tree.specs.declared.value.CValue.{CValue}
 use Rattle.c_tree.specs.Values.{value_spelling}
 use Rattle.c_input.specs.Addresses.{IsAddress}

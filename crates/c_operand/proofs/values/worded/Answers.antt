@@ -1,6 +1,6 @@
 use Rattle.std.proofs.Common.{◌≡◌, ◌++◌, ◌∷◌, ℕ, List, Some, ◌⊎◌, inl, inr, sym, ap, ◌∙◌}
 use Rattle.std.specs.Prelude.{◌≢◌, slice_get}
-use Rattle.c_state.specs.CTokens.{CToken, Word, sign}
+use Rattle.c_token.specs.CTokens.{CToken, Word, sign}
 use Rattle.c_tree.specs.declared.value.CValue.{CValue}
 use Rattle.c_tree.specs.declared.value.CValue.TheVariants as value
 use Rattle.c_tree.specs.Values.{value_spelling}

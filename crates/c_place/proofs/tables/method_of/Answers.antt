@@ -1,5 +1,5 @@
 use Rattle.std.proofs.Common.{◌++◌, List, ap, ◌∙◌}
-use Rattle.c_state.specs.CTokens.{CToken}
+use Rattle.c_token.specs.CTokens.{CToken}
 use Rattle.c_place.proofs.Fixed.{method_spelled}
 use Rattle.c_place.proofs.tables.method_of.Goals as goal
 

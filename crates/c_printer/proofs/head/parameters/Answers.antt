@@ -1,6 +1,6 @@
 use Rattle.std.proofs.Common.{◌∷◌, append_assoc}
 use Rattle.std.specs.List.{flat_map}
-use Rattle.c_state.specs.CTokens.{sign}
+use Rattle.c_token.specs.CTokens.{sign}
 use Rattle.c_tree.specs.Names.{variable_token}
 use Rattle.c_tree.specs.Items.{parameter_spelling}
 use Rattle.c_tree.specs.declared.name.Variable.TheVariants as variable

@@ -1,6 +1,6 @@
 use Rattle.std.proofs.Common.{◌∷◌}
 use Rattle.std.specs.List.{flat_map}
-use Rattle.c_state.specs.CTokens.{sign}
+use Rattle.c_token.specs.CTokens.{sign}
 use Rattle.c_tree.specs.Values.{type_spelling}
 use Rattle.c_printer.proofs.Joins.{behind}
 use Rattle.c_printer.proofs.Voids.{no_void}

@@ -1,4 +1,4 @@
-use Rattle.c_state.specs.CTokens.{c_tokens, tokens_from}
+use Rattle.c_token.specs.CTokens.{c_tokens, tokens_from}
 use Rattle.c_printer.proofs.place.operator.Goals as goal
 
 pub returns-in-Add : goal.returns-in-Add

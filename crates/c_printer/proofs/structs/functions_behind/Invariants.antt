@@ -1,6 +1,6 @@
 use Rattle.std.proofs.Common.{◌≡◌, ◌++◌, ◌∷◌, [], take}
 use Rattle.std.specs.List.{flat_map}
-use Rattle.c_state.specs.CTokens.{sign}
+use Rattle.c_token.specs.CTokens.{sign}
 use Rattle.c_tree.specs.Items.{function_token}
 use Rattle.c_printer.proofs.structs.functions_behind.Given as goal
 

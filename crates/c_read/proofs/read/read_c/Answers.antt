@@ -1,6 +1,6 @@
 use Rattle.std.proofs.Common.{ap, ◌∙◌}
 use Rattle.std.specs.Prelude.{Ok, Err}
-use Rattle.c_state.specs.CReading.{c_items}
+use Rattle.c_token.specs.Cutting.{c_items}
 use Rattle.c_cut.specs.Shown.{items_shown}
 use Rattle.c_read.proofs.Texts.{file_form, items_fit, text_answer, text_every}
 use Rattle.c_read.proofs.read.read_c.Goals as goal

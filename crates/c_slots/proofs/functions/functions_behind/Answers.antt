@@ -1,6 +1,6 @@
 use Rattle.std.proofs.Common.{List, Some, refl, sym, ap, subst, ◌∙◌}
 use Rattle.std.specs.Prelude.{slice_get}
-use Rattle.c_state.specs.CTokens.{CToken}
+use Rattle.c_token.specs.CTokens.{CToken}
 use Rattle.c_tree.specs.declared.name.FunctionName.{FunctionName}
 use Rattle.c_tree.specs.Forms.{IsFunctionName}
 use Rattle.c_input.proofs.Lists.{item_every, read_end, read_missed, read_step, IsRead}

@@ -1,6 +1,6 @@
 use Rattle.std.proofs.Common.{◌∷◌, Some, ◌∙◌}
 use Rattle.std.specs.Prelude.{⊤}
-use Rattle.c_state.specs.CTokens.{sign}
+use Rattle.c_token.specs.CTokens.{sign}
 use Rattle.c_tree.specs.Items.{types_spelling}
 use Rattle.c_input.proofs.Rows.{left_of, next_one, value_of}
 use Rattle.c_slots.specs.Slots.{head_tokens}

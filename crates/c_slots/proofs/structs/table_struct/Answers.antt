@@ -1,6 +1,6 @@
 use Rattle.std.proofs.Common.{◌≡◌, ◌∷◌, Some, refl, sym, ap, subst, ◌∙◌}
 use Rattle.std.specs.List.{flat_map, AllByRecursion}
-use Rattle.c_state.specs.CTokens.{sign}
+use Rattle.c_token.specs.CTokens.{sign}
 use Rattle.c_tree.specs.Forms.{AreSlots}
 use Rattle.c_input.proofs.Rows.{left_of, next_one, value_of}
 use Rattle.c_slots.specs.declared.structs.Opened.{Opened}

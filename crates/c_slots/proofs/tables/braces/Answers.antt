@@ -1,6 +1,6 @@
 use Rattle.std.proofs.Common.{◌++◌, drop, sym, ap, ◌∙◌}
 use Rattle.std.specs.Prelude.{replicate}
-use Rattle.c_state.specs.CTokens.{sign}
+use Rattle.c_token.specs.CTokens.{sign}
 use Rattle.c_slots.proofs.Firsts.{first_of}
 use Rattle.c_slots.proofs.tables.braces.Goals as goal
 

@@ -1,6 +1,6 @@
 use Rattle.std.proofs.Common.{◌∷◌, ◌++◌, [], List, ℕ, Some, refl, ◌∙◌}
 use Rattle.std.specs.List.{flat_map, AllByRecursion}
-use Rattle.c_state.specs.CTokens.{CToken, sign}
+use Rattle.c_token.specs.CTokens.{CToken, sign}
 use Rattle.c_tree.specs.Forms.{IsString}
 use Rattle.c_tree.specs.Items.{behind}
 use Rattle.c_tree.specs.Values.{string}

@@ -1,5 +1,5 @@
 use Rattle.std.proofs.Common.{◌≡◌, ◌++◌, List, Some}
-use Rattle.c_state.specs.CTokens.{CToken}
+use Rattle.c_token.specs.CTokens.{CToken}
 use Rattle.c_tree.specs.declared.item.Line.{Line}
 use Rattle.c_tree.specs.declared.item.Line.TheVariants as line
 use Rattle.c_tree.specs.Forms.{IsLine}

@@ -1,5 +1,5 @@
 use Rattle.std.proofs.Common.{◌≡◌, ◌++◌, ◌∷◌, List, Some, sym, ap, drop, ◌∙◌}
-use Rattle.c_state.specs.CTokens.{CToken, sign}
+use Rattle.c_token.specs.CTokens.{CToken, sign}
 use Rattle.c_input.proofs.Rows.{left_of, value_of}
 use Rattle.c_statement.proofs.Chain.{front_of, joined, missing}
 use Rattle.c_statement.specs.declared.source.Source.{Source}

@@ -1,5 +1,5 @@
 use Rattle.std.proofs.Common.{◌≡◌, ◌++◌, List}
-use Rattle.c_state.specs.CTokens.{CToken}
+use Rattle.c_token.specs.CTokens.{CToken}
 use Rattle.c_input.proofs.Rows.{left_of}
 use Rattle.c_statement.proofs.Chain.{front_of}
 use Rattle.c_statement.specs.declared.source.Source.{Source}

@@ -1,5 +1,5 @@
 use Rattle.std.proofs.Common.{◌≡◌, ◌++◌, List, Some, sym, ap, ◌∙◌}
-use Rattle.c_state.specs.CTokens.{CToken}
+use Rattle.c_token.specs.CTokens.{CToken}
 use Rattle.c_input.proofs.Rows.{left_of, value_of}
 use Rattle.c_statement.proofs.Chain.{end_apart, field_known, front_of, missing, variable_apart}
 use Rattle.c_statement.specs.declared.source.Source.{Source}

@@ -1,5 +1,5 @@
 use Rattle.std.proofs.Common.{◌≡◌, ◌++◌, List, Some, sym, ap, drop, ◌∙◌}
-use Rattle.c_state.specs.CTokens.{CToken}
+use Rattle.c_token.specs.CTokens.{CToken}
 use Rattle.c_statement.specs.declared.store.Store.{Store}
 use Rattle.c_statement.specs.declared.store.Store.TheVariants as store
 use Rattle.c_statement.specs.Stores.{store_tokens, IsStore}

@@ -1,5 +1,5 @@
 use Rattle.std.proofs.Common.{◌≡◌, ◌++◌, ◌∷◌, List, Some, None, sym, ap, drop, ◌∙◌}
-use Rattle.c_state.specs.CTokens.{CToken, sign}
+use Rattle.c_token.specs.CTokens.{CToken, sign}
 use Rattle.c_input.proofs.Rows.{left_of, value_of}
 use Rattle.c_statement.proofs.Chain.{field_known, front_of, joined, missing}
 use Rattle.c_tree.specs.declared.statement.CStmt.{CStmt}

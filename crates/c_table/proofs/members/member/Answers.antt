@@ -1,6 +1,6 @@
 use Rattle.std.proofs.Common.{◌≡◌, ◌∷◌, ◌++◌, [], List, Some, ap, sym, ◌∙◌}
 use Rattle.std.specs.Prelude.{◌≢◌, None, Option}
-use Rattle.c_state.specs.CTokens.{CToken, Word}
+use Rattle.c_token.specs.CTokens.{CToken, Word}
 use Rattle.c_tree.specs.declared.name.Numbered.{Numbered}
 use Rattle.c_tree.specs.Forms.{IsMember}
 use Rattle.c_word.specs.Numbers.{two_numbers}

@@ -1,6 +1,6 @@
 use Rattle.std.proofs.Common.{◌≡◌, ◌++◌, List, Some, ℕ, ap, sym, ◌∙◌}
 use Rattle.std.specs.Prelude.{◌≢◌, None, Option}
-use Rattle.c_state.specs.CTokens.{CToken}
+use Rattle.c_token.specs.CTokens.{CToken}
 use Rattle.c_tree.specs.declared.name.Numbered.{Numbered}
 use Rattle.c_tree.specs.Forms.{AreMembers, IsMember}
 use Rattle.c_table.specs.Parts.{assigned, dotted, end_tokens, member_tokens, pair_tokens}

@@ -1,6 +1,6 @@
 use Rattle.std.proofs.Common.{◌++◌, ◌∷◌, [], List, ◌<◌, ◌^◌, ◌∙◌, arith}
 use Rattle.std.specs.Prelude.{⊤, decimal, codes}
-use Rattle.c_state.specs.CTokens.{CToken, Word, sign}
+use Rattle.c_token.specs.CTokens.{CToken, Word, sign}
 use Rattle.c_tree.specs.declared.value.CType.{CType}
 use Rattle.c_tree.specs.Names.{letter_token}
 use Rattle.c_tree.specs.Values.{type_spelling}

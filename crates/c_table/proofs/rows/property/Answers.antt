@@ -1,5 +1,5 @@
 use Rattle.std.proofs.Common.{◌∷◌, [], Some}
-use Rattle.c_state.specs.CTokens.{sign}
+use Rattle.c_token.specs.CTokens.{sign}
 use Rattle.c_tree.specs.Forms.{IsString}
 use Rattle.c_tree.specs.Values.{string}
 use Rattle.c_table.proofs.Steps.{behind, next_read, some_same}

@@ -1,8 +1,8 @@
 use Rattle.std.proofs.Common.{◌≡◌, Some, ap, sym, ◌∙◌}
 use Rattle.std.proofs.lemmas.Bool.Decides.{Decides-eqb}
 use Rattle.std.proofs.lemmas.Slice.Eq.{slice_eq-Decides}
-use Rattle.c_state.specs.declared.space.Exception.TheVariants as exception
-use Rattle.c_state.specs.declared.space.Exception.{Exception}
+use Rattle.c_token.specs.declared.exception.Exception.TheVariants as exception
+use Rattle.c_token.specs.declared.exception.Exception.{Exception}
 use Rattle.c_tree.specs.Values.{exception_name}
 use Rattle.c_word.proofs.Once.{exception_once, equal, not_equal}
 use Rattle.c_word.proofs.names.exception.Goals as goal

@@ -1,6 +1,6 @@
 use Rattle.std.proofs.Common.{◌≡◌, ◌++◌, drop}
 use Rattle.std.specs.List.{flat_map}
-use Rattle.c_state.specs.CReading.{quoted_byte}
+use Rattle.c_token.specs.Spelled.{quoted_byte}
 use Rattle.c_writer.proofs.writer.put_quoted.Given as goal
 
 abbrev pub invariant-loop-byte : goal.invariant-loop-byte

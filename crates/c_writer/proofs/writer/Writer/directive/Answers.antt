@@ -1,5 +1,5 @@
 use Rattle.std.proofs.Common.{◌++◌, ◌∙◌, ap, refl}
-use Rattle.c_state.specs.CTokens.{c_tokens}
+use Rattle.c_token.specs.CTokens.{c_tokens}
 use Rattle.c_writer.proofs.Splits.{line_rests, line_written}
 use Rattle.c_writer.proofs.writer.Writer.directive.Goals as goal
 

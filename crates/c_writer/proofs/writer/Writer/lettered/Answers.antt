@@ -1,6 +1,6 @@
 use Rattle.std.proofs.Common.{◌≡◌, ◌++◌, ◌∷◌, [], ◌∙◌, ap, append_assoc, decimal, arith}
-use Rattle.c_state.specs.CTokens.{Word, c_tokens}
-use Rattle.c_state.proofs.Tokens.{decimal_name}
+use Rattle.c_token.specs.CTokens.{Word, c_tokens}
+use Rattle.c_token.proofs.Tokens.{decimal_name}
 use Rattle.c_writer.proofs.Names.{name_rests, name_written}
 use Rattle.c_writer.proofs.writer.Writer.lettered.Goals as goal
 

@@ -1,5 +1,5 @@
 use Rattle.std.proofs.Common.{◌≡◌, ◌++◌, ◌∷◌, [], ◌∙◌, ap, append_assoc, arith}
-use Rattle.c_state.specs.CTokens.{Word, c_tokens}
+use Rattle.c_token.specs.CTokens.{Word, c_tokens}
 use Rattle.c_writer.specs.Rest.{two_numbers}
 use Rattle.c_writer.proofs.Names.{two_words, name_rests, name_written}
 use Rattle.c_writer.proofs.writer.Writer.numbered.Goals as goal

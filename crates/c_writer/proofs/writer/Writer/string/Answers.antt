@@ -1,7 +1,7 @@
 use Rattle.std.proofs.Common.{◌≡◌, ◌++◌, ◌∷◌, [], ◌∙◌, ap, append_assoc}
 use Rattle.std.specs.List.{flat_map}
-use Rattle.c_state.specs.CTokens.{Str, c_tokens}
-use Rattle.c_state.specs.CReading.{quoted_byte}
+use Rattle.c_token.specs.CTokens.{Str, c_tokens}
+use Rattle.c_token.specs.Spelled.{quoted_byte}
 use Rattle.c_writer.proofs.Splits.{string_rests, string_written}
 use Rattle.c_writer.proofs.writer.Writer.string.Goals as goal
 

@@ -1,5 +1,5 @@
 use Rattle.std.proofs.Common.{◌++◌, ◌∙◌, ap}
-use Rattle.c_state.specs.CTokens.{c_tokens}
+use Rattle.c_token.specs.CTokens.{c_tokens}
 use Rattle.c_writer.proofs.Splits.{whole_rests, whole_written}
 use Rattle.c_writer.proofs.writer.Writer.text.Goals as goal
 

@@ -1,6 +1,6 @@
 use Rattle.std.proofs.Common.{◌≡◌, ◌++◌, ◌∷◌, [], ◌∙◌, ap, append_assoc, decimal, arith}
 use Rattle.std.specs.Prelude.{codes}
-use Rattle.c_state.specs.CTokens.{Word, c_tokens}
+use Rattle.c_token.specs.CTokens.{Word, c_tokens}
 use Rattle.c_writer.specs.Rest.{two_numbers}
 use Rattle.c_writer.proofs.Names.{three_words, name_rests, name_written}
 use Rattle.c_writer.proofs.writer.Writer.with_three.Goals as goal

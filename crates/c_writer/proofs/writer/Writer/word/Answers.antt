@@ -1,5 +1,5 @@
 use Rattle.std.proofs.Common.{◌≡◌, ◌++◌, ◌∷◌, [], ◌∙◌, ap, append_assoc}
-use Rattle.c_state.specs.CTokens.{Word, c_tokens}
+use Rattle.c_token.specs.CTokens.{Word, c_tokens}
 use Rattle.c_writer.proofs.Names.{name_rests, name_written}
 use Rattle.c_writer.proofs.writer.Writer.word.Goals as goal
 

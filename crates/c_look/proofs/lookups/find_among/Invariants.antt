@@ -1,6 +1,0 @@
-use Rattle.std.proofs.Common.{◌≡◌, drop}
-use Rattle.c_look.specs.Lookups.{standing_among}
-use Rattle.c_look.proofs.lookups.find_among.Given as goal
-
-abbrev pub invariant-loop-file : goal.invariant-loop-file
-invariant-loop-file l = standing_among l.from l.wanted (drop l.from l.files) ≡ standing_among l.file l.wanted (drop l.file l.files)

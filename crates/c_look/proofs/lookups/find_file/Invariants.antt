@@ -1,6 +1,0 @@
-use Rattle.std.proofs.Common.{◌≡◌, drop}
-use Rattle.c_state.specs.Reads.{module_from}
-use Rattle.c_look.proofs.lookups.find_file.Given as goal
-
-abbrev pub invariant-loop-k : goal.invariant-loop-k
-invariant-loop-k l = module_from 0 l.files l.«module» ≡ module_from l.k (drop l.k l.files) l.«module»

@@ -1,6 +1,0 @@
-use Rattle.std.proofs.Common.{◌≡◌, drop}
-use Rattle.c_state.specs.Reads.{method_in}
-use Rattle.c_look.proofs.lookups.find_method.Given as goal
-
-abbrev pub invariant-loop-item : goal.invariant-loop-item
-invariant-loop-item l = method_in l.items l.name ≡ method_in (drop l.item-index l.items) l.name

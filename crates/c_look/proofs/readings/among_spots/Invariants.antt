@@ -1,6 +1,0 @@
-use Rattle.std.proofs.Common.{◌≡◌, drop}
-use Rattle.c_state.specs.State.{among_spots}
-use Rattle.c_look.proofs.readings.among_spots.Given as goal
-
-abbrev pub invariant-loop-spot : goal.invariant-loop-spot
-invariant-loop-spot l = among_spots l.spots l.object ≡ among_spots (drop l.spot-index l.spots) l.object

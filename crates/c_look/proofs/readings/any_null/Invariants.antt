@@ -1,6 +1,0 @@
-use Rattle.std.proofs.Common.{◌≡◌, drop}
-use Rattle.c_state.specs.Reads.{any_null}
-use Rattle.c_look.proofs.readings.any_null.Given as goal
-
-abbrev pub invariant-loop-reading : goal.invariant-loop-reading
-invariant-loop-reading l = any_null l.readings ≡ any_null (drop l.reading-index l.readings)

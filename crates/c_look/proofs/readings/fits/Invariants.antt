@@ -1,6 +1,0 @@
-use Rattle.std.proofs.Common.{◌≡◌, ◌≤◌, drop, length}
-use Rattle.c_state.specs.Reads.{fits}
-use Rattle.c_look.proofs.readings.fits.Given as goal
-
-abbrev pub invariant-loop-i : goal.invariant-loop-i
-invariant-loop-i l = (fits l.kinds l.vs ≡ fits (drop l.i l.kinds) (drop l.i l.vs)) × (l.i ≤ length l.vs)

@@ -1,6 +1,0 @@
-use Rattle.std.proofs.Common.{◌≡◌, ◌++◌, drop}
-use Rattle.c_state.specs.Reads.{values_of}
-use Rattle.c_plan.proofs.entering.values_of.Given as goal
-
-abbrev pub invariant-loop-v : goal.invariant-loop-v
-invariant-loop-v l = values_of l.vs ≡ l.values ++ values_of (drop l.v-index l.vs)

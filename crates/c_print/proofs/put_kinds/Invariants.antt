@@ -1,7 +1,0 @@
-use Rattle.std.proofs.Common.{◌≡◌, ◌++◌, take, codes}
-use Rattle.std.specs.List.{flat_map}
-use Rattle.c_print.specs.CText.{type_text}
-use Rattle.c_print.proofs.put_kinds.Given as goal
-
-abbrev pub invariant-loop-kind : goal.invariant-loop-kind
-invariant-loop-kind l = l.out.items ≡ l.initial.out.items ++ flat_map (λ x. codes ", " ++ type_text x) (take l.kind-index l.more)

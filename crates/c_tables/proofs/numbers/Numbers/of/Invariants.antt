@@ -1,6 +1,0 @@
-use Rattle.std.proofs.Common.{drop}
-use Rattle.c_tables.specs.Tables.{AreNumbersFrom}
-use Rattle.c_tables.proofs.numbers.Numbers.of.Given as goal
-
-abbrev pub invariant-loop-at : goal.invariant-loop-at
-invariant-loop-at l = AreNumbersFrom l.at (drop l.at l.cells) l.numbers

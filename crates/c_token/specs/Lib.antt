@@ -1,0 +1,3 @@
+pub mod CTokens
+pub mod Cutting
+pub mod Spelled

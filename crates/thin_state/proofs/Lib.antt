@@ -1,0 +1,4 @@
+pub mod Items
+mod ReadingRows
+mod Rows
+pub mod Unique

@@ -1,0 +1,9 @@
+pub mod CReading
+pub mod Honest
+pub mod Machine
+pub mod Objects
+pub mod Outside
+pub mod Reads
+pub mod State
+pub mod Statements
+pub mod World
