@@ -1,0 +1,6 @@
+//! Stub.
+#![tactic(auto)]
+
+mod number;
+
+pub use number::{Computed, Number};

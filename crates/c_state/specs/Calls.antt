@@ -1,0 +1,176 @@
+-- Calls of the functions of the files, directly or through a method table (ISO/IEC 9899:2011 6.5.2.2).
+use Rattle.std.specs.Prelude.{ℕ, Bool, true, false, ◌&&◌, List, [], ◌∷◌, ◌++◌, Option, Some, None, map, slice_get, if◌then◌else◌}
+use Rattle.api_model.specs.declared.object.Obj.{Obj}
+use Rattle.c_tree.specs.declared.name.Numbered.{Numbered}
+use Rattle.c_tree.specs.declared.name.FixedParameter.TheVariants as fixed
+use Rattle.c_tree.specs.declared.name.FunctionName.{FunctionName}
+use Rattle.c_tree.specs.declared.name.FunctionName.TheVariants as function
+use Rattle.c_tree.specs.declared.name.Variable.{Variable}
+use Rattle.c_tree.specs.declared.name.Variable.TheVariants as variable
+use Rattle.c_tree.specs.declared.value.CResult.{CResult}
+use Rattle.c_tree.specs.declared.value.CResult.TheVariants as result
+use Rattle.c_tree.specs.declared.statement.Argument.{Argument}
+use Rattle.c_tree.specs.declared.item.Parameter.{Parameter}
+use Rattle.c_tree.specs.declared.item.Declaration.{Declaration}
+use Rattle.c_tree.specs.declared.item.StructTable.{StructTable}
+use Rattle.c_tree.specs.declared.item.CHead.{CHead}
+use Rattle.c_tree.specs.declared.item.CHead.TheVariants as head
+use Rattle.c_tree.specs.declared.item.CFunction.{CFunction}
+use Rattle.c_tree.specs.declared.item.CFile.{CFile}
+use Rattle.c_state.specs.declared.step.FaultKind.TheVariants as fault
+use Rattle.c_state.specs.declared.kind.Kind.{Kind}
+use Rattle.c_state.specs.declared.kind.Kind.TheVariants as kind
+use Rattle.c_state.specs.declared.value.Value.{Value}
+use Rattle.c_state.specs.declared.value.Reading.{Reading}
+use Rattle.c_state.specs.declared.space.Instance.{Instance}
+use Rattle.c_state.specs.declared.frame.Cell.{Cell}
+use Rattle.c_state.specs.declared.frame.Entered.{Entered}
+use Rattle.c_state.specs.declared.frame.Entered.TheVariants as entered
+use Rattle.c_state.specs.declared.frame.Doing.{Doing}
+use Rattle.c_state.specs.declared.frame.Doing.TheVariants as doing
+use Rattle.c_state.specs.Linked.{Found, FoundFunction, NotFound, function_named, table_of, functions_of, table_struct_of, adds_slot, begins_with, item_count}
+use Rattle.c_state.specs.Values.{kind_of, int, size, converted, initial_value, is_object, all_set, passed, values_of, fits}
+use Rattle.c_state.specs.Ledger.{enter}
+use Rattle.c_state.specs.State.{Frame, CState, with_frames, with_ledger, in_frame, all_held, instance_of}
+use Rattle.c_state.specs.Moved.{Moved, Went, Faulted, need, need_some, need_strictly}
+use Rattle.c_state.specs.Reads.{receives, lends, lends_each, lend, may_read, may_read_each}
+use Rattle.c_state.specs.Fields.{object_variable, uses}
+
+-- ---- the types of a function
+
+abbrev pub plain_parameter : Parameter → Variable × Kind
+plain_parameter p = (variable.Parameter p.number, kind_of p.kind)
+
+abbrev pub self_parameter : Variable × Kind
+self_parameter = (variable.Fixed fixed.SelfObject, kind.Object)
+
+-- the parameters of a function, each with its type
+abbrev pub parameters : CHead → List (Variable × Kind)
+parameters (head.Plain n r ps) = map plain_parameter ps
+parameters (head.Overridable n r ps) = map plain_parameter ps
+parameters (head.Wrapper n) = self_parameter ∷ (variable.Fixed fixed.Arguments, kind.Arguments) ∷ (variable.Fixed fixed.ArgumentCount, size) ∷ []
+parameters (head.New n) = (variable.Fixed fixed.Type, kind.TypeObject) ∷ (variable.Fixed fixed.Arguments, kind.Object) ∷ (variable.Fixed fixed.Keywords, kind.Object) ∷ []
+parameters (head.Init n) = self_parameter ∷ (variable.Fixed fixed.Arguments, kind.Object) ∷ (variable.Fixed fixed.Keywords, kind.Object) ∷ []
+parameters (head.Dealloc n) = self_parameter ∷ []
+parameters (head.Len n) = self_parameter ∷ []
+parameters (head.Item n) = self_parameter ∷ (variable.Fixed fixed.Key, kind.Object) ∷ []
+parameters (head.Has n) = self_parameter ∷ (variable.Fixed fixed.Key, kind.Object) ∷ []
+parameters (head.Getter n) = self_parameter ∷ (variable.Fixed fixed.Closure, kind.Closure) ∷ []
+parameters (head.Setter n) = self_parameter ∷ (variable.Fixed fixed.Value, kind.Object) ∷ (variable.Fixed fixed.Closure, kind.Closure) ∷ []
+parameters head.Body = []
+parameters (head.Initializer n) = []
+
+abbrev pub kinds_of : List (Variable × Kind) → List Kind
+kinds_of [] = []
+kinds_of ((x, k) ∷ ps) = k ∷ kinds_of ps
+
+abbrev pub result_by : CResult → Option Kind
+result_by result.Void = None
+result_by (result.Value t) = Some (kind_of t)
+
+-- the type of a function's result, if it has one
+abbrev pub result_kind : CHead → Option Kind
+result_kind (head.Plain n r ps) = result_by r
+result_kind (head.Overridable n r ps) = result_by r
+result_kind (head.Wrapper n) = Some kind.Object
+result_kind (head.New n) = Some kind.Object
+result_kind (head.Init n) = Some int
+result_kind (head.Dealloc n) = None
+result_kind (head.Len n) = Some size
+result_kind (head.Item n) = Some kind.Object
+result_kind (head.Has n) = Some int
+result_kind (head.Getter n) = Some kind.Object
+result_kind (head.Setter n) = Some int
+result_kind head.Body = Some int
+result_kind (head.Initializer n) = Some kind.Object
+
+-- ---- the frame of a function: its variables before its parameters
+
+abbrev pub declared_cell : Declaration → Cell
+declared_cell d = record { variable = d.variable; kind = kind_of d.kind; value = initial_value (kind_of d.kind) d.initial }
+
+abbrev pub parameter_cells : List (Variable × Kind) → List Value → List Cell
+parameter_cells ((x, k) ∷ ps) (v ∷ vs) = record { variable = x; kind = k; value = converted k v } ∷ parameter_cells ps vs
+parameter_cells _ _ = []
+
+abbrev pub frame_of : ℕ → CFunction → List Value → Entered → Bool → Frame
+frame_of k fn vs by lock = record {
+  file = k;
+  function = fn;
+  code = fn.lines;
+  variables = map declared_cell fn.declarations ++ parameter_cells (parameters fn.head) vs;
+  entered = by;
+  doing = doing.Runs;
+  lock = lock;
+}
+
+-- a function is entered: these objects are lent to it
+abbrev pub entering : ℕ → CFunction → List Value → List Obj → Entered → CState → CState
+entering k fn vs os by c = with_ledger (enter os c.thread.ledger) (with_frames (frame_of k fn vs by c.shared.lock ∷ c.thread.frames) c)
+
+-- ---- calls
+
+abbrev pub set_doing : Doing → Frame → Frame
+set_doing d f = record f { doing = d }
+
+abbrev pub wait : Option Variable → CState → CState
+wait x c = in_frame (set_doing (doing.Waits x)) c
+
+-- whether a result can go where the call sends it: a `void` function gives none
+abbrev pub receives_result : CState → Frame → Option Variable → Option Kind → Bool
+receives_result c f None k = true
+receives_result c f (Some x) None = false
+receives_result c f (Some x) (Some k) = receives c f (Some x) k
+
+abbrev pub call_found : CState → Frame → Option Variable → List Argument → List Reading → Found → Moved
+call_found c f x ks vs NotFound = Faulted fault.Stuck
+call_found c f x ks vs (FoundFunction k fn) =
+    need (fits (kinds_of (parameters fn.head)) vs && receives_result c f x (result_kind fn.head)) fault.Stuck
+    (need (all_set vs) fault.Undefined
+    (need_strictly c (may_read_each c ks vs) fault.Unlocked
+    (need_strictly c (all_held c (passed vs)) fault.Unheld
+    (Went (entering k fn (values_of vs) (passed vs) entered.FromC (wait x (lend (lends_each ks vs) c)))))))
+
+-- an initialisation function has no name of the profile
+abbrev pub callable : List CFile → ℕ → FunctionName → Found
+callable files k (function.Initializer n) = NotFound
+callable files k name = function_named files k name
+
+-- `x = cyc_f_M_K(k, ..);`
+abbrev pub call : List CFile → CState → Frame → Option Variable → FunctionName → List Argument → List Reading → Moved
+call files c f x name ks vs = call_found c f x ks vs (callable files f.file name)
+
+-- ---- `x = ((const struct V *)((struct cyc_root *)y)->vt)->mJ(k, ..);`
+
+abbrev pub in_table : List CFile → Numbered → ℕ → Option StructTable → Option FunctionName
+in_table files class j None = None
+in_table files class j (Some t) =
+    if begins_with files (item_count files) t.class class then slice_get (functions_of t) j else None
+
+abbrev pub table_in_instance : List CFile → Option Numbered → Option StructTable
+table_in_instance files None = None
+table_in_instance files (Some class) = table_of files class
+
+-- the function of a slot, where an instance has a method table with that struct
+abbrev pub method_of : List CFile → Numbered → ℕ → Option Instance → Option FunctionName
+method_of files class j None = None
+method_of files class j (Some i) = in_table files class j (table_in_instance files i.table)
+
+abbrev pub call_slot : List CFile → CState → Frame → Option Variable → Variable → Reading → List Argument → List Reading → FunctionName → Moved
+call_slot files c f x object y ks vs name =
+    need_strictly c (may_read c (object_variable object) y) fault.Unlocked
+    (need_strictly c (uses c y) fault.Unheld
+    (call_found (lend (lends (object_variable object) y) c) f x ks vs (callable files f.file name)))
+
+-- the tests of the call itself come first
+abbrev pub call_tests : CState → Frame → Option Variable → List Reading → Found → Bool
+call_tests c f x vs NotFound = false
+call_tests c f x vs (FoundFunction k fn) = fits (kinds_of (parameters fn.head)) vs && receives_result c f x (result_kind fn.head)
+
+abbrev pub call_method : List CFile → CState → Frame → Option Variable → Numbered → Variable → ℕ → Reading → List Argument → List Reading → Moved
+call_method files c f x class object j y ks vs =
+    need (is_object y.kind && adds_slot (table_struct_of files class) j) fault.Stuck
+    (need_some (method_of files class j (instance_of c y.value)) fault.BadField (λ name.
+    (need (call_tests c f x vs (callable files f.file name)) fault.Stuck
+    (need (all_set vs) fault.Undefined
+    (call_slot files c f x object y ks vs name)))))

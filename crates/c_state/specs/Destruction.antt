@@ -1,0 +1,69 @@
+-- When an instance is destroyed, and by which code (Python/C API manual, "Type Objects", `tp_dealloc`).
+use Rattle.std.specs.Prelude.{ℕ, Bool, false, ◌&&◌, ◌||◌, List, [], ◌∷◌, Option, Some, None, if◌then◌else◌}
+use Rattle.std.specs.List.{list_any}
+use Rattle.api_model.specs.declared.object.Obj.{Obj}
+use Rattle.api_model.specs.declared.object.Obj.TheVariants as obj
+use Rattle.api_model.specs.Objects.{same_obj}
+use Rattle.c_tree.specs.declared.name.Numbered.{Numbered}
+use Rattle.c_tree.specs.declared.name.FunctionName.TheVariants as function
+use Rattle.c_tree.specs.declared.item.TypeObject.{TypeObject}
+use Rattle.c_tree.specs.declared.item.CFile.{CFile}
+use Rattle.c_state.specs.declared.kind.Kind.{Kind}
+use Rattle.c_state.specs.declared.value.Value.{Value}
+use Rattle.c_state.specs.declared.value.Value.TheVariants as value
+use Rattle.c_state.specs.declared.space.Spot.{Spot}
+use Rattle.c_state.specs.declared.space.Part.{Part}
+use Rattle.c_state.specs.declared.space.Instance.{Instance}
+use Rattle.c_state.specs.declared.frame.Entered.TheVariants as entered
+use Rattle.c_state.specs.Linked.{Found, FoundFunction, NotFound, function_named, type_at}
+use Rattle.c_state.specs.Ledger.{in_use}
+use Rattle.c_state.specs.State.{CState, instance_at, value_is}
+use Rattle.c_state.specs.Calls.{entering}
+
+-- whether a place, or a field of an instance that wasn't freed, holds an object
+abbrev pub spot_holds : Obj → Spot → Bool
+spot_holds o s = value_is s.value o
+
+abbrev pub spots_hold : Obj → List Spot → Bool
+spots_hold o ss = list_any (spot_holds o) ss
+
+abbrev pub field_holds : Obj → Kind × Value → Bool
+field_holds o (k, v) = value_is v o
+
+abbrev pub part_holds : Obj → Part → Bool
+part_holds o p = list_any (field_holds o) p.fields
+
+abbrev pub instance_holds : Obj → Instance → Bool
+instance_holds o i = i.alive && list_any (part_holds o) i.parts
+
+abbrev pub is_error : Option Obj → Obj → Bool
+is_error None o = false
+is_error (Some e) o = same_obj e o
+
+-- whether an object is owned by a frame or lent to one, is the exception that is set, or stands in a place or a field
+abbrev pub is_kept : CState → Obj → Bool
+is_kept c o =
+    in_use c.thread.ledger.accounts o || (is_error c.thread.error o
+    || (list_any (spots_hold o) c.shared.places || list_any (instance_holds o) c.shared.instances))
+
+abbrev pub dealloc_of : List CFile → ℕ → Option Numbered → Found
+dealloc_of files k None = NotFound
+dealloc_of files k (Some n) = function_named files k (function.Dealloc n)
+
+abbrev pub dealloc_in : List CFile → ℕ → Option TypeObject → Found
+dealloc_in files k None = NotFound
+dealloc_in files k (Some t) = dealloc_of files k t.dealloc
+
+-- the dealloc code of an instance that may be destroyed
+abbrev pub destroyer : List CFile → CState → ℕ → Option Instance → Found
+destroyer files c k None = NotFound
+destroyer files c k (Some i) = if is_kept c (obj.Inst k) then NotFound else dealloc_in files i.class.file (type_at files i.class)
+
+abbrev pub destroying : CState → ℕ → Found → CState
+destroying c k NotFound = c
+destroying c k (FoundFunction j fn) =
+    entering j fn (value.Object (obj.Inst k) ∷ []) (obj.Inst k ∷ []) (entered.ForDestruction k) c
+
+-- `die K`: the dealloc code is entered, with the instance lent to it; without the ledger the entry is skipped
+abbrev pub die : List CFile → CState → ℕ → CState
+die files c k = if c.strict then destroying c k (destroyer files c k (instance_at c k)) else c

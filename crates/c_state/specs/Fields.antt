@@ -1,0 +1,130 @@
+-- Statements on instances: fields, method tables, the mark of heap types, the end of an instance (Cython documentation,
+-- "Extension Types"; Python/C API manual, "Type Objects", `tp_free`).
+use Rattle.std.specs.Prelude.{Bool, true, false, not, ◌&&◌, ◌||◌, List, [], ◌∷◌, Option, Some, None, is_none}
+use Rattle.std.specs.List.{list_all}
+use Rattle.api_model.specs.declared.object.Obj.{Obj}
+use Rattle.api_model.specs.declared.object.Obj.TheVariants as obj
+use Rattle.api_model.specs.declared.object.Allocation.{Allocation}
+use Rattle.api_model.specs.declared.object.Allocation.TheVariants as allocation
+use Rattle.c_tree.specs.declared.name.Numbered.{Numbered}
+use Rattle.c_tree.specs.declared.name.Variable.{Variable}
+use Rattle.c_tree.specs.declared.value.CValue.{CValue}
+use Rattle.c_tree.specs.declared.value.CValue.TheVariants as operand
+use Rattle.c_tree.specs.declared.statement.FieldPlace.{FieldPlace}
+use Rattle.c_tree.specs.declared.item.StructTable.{StructTable}
+use Rattle.c_tree.specs.declared.item.CFile.{CFile}
+use Rattle.c_state.specs.declared.step.FaultKind.TheVariants as fault
+use Rattle.c_state.specs.declared.kind.Kind.{Kind}
+use Rattle.c_state.specs.declared.value.Value.{Value}
+use Rattle.c_state.specs.declared.value.Value.TheVariants as value
+use Rattle.c_state.specs.declared.value.Reading.{Reading}
+use Rattle.c_state.specs.declared.space.Part.{Part}
+use Rattle.c_state.specs.declared.space.Instance.{Instance}
+use Rattle.c_state.specs.Values.{converts, int, is_object, is_set, is_null, has_objects, objects_in}
+use Rattle.c_state.specs.State.{Frame, CState, all_held, instance_of, set_instance}
+use Rattle.c_state.specs.Moved.{Moved, Went, need, need_some, need_strictly}
+use Rattle.c_state.specs.Reads.{variable_reading, lends, lend, may_read, takes}
+use Rattle.c_state.specs.Stores.{give, is_tuple, may_store_to, may_write_to, owns_moved, moved, field_kind, field_value, set_field}
+use Rattle.c_state.specs.Assignments.{truth}
+
+-- a field is read and stored with the lock where it holds objects
+abbrev pub field_open : CState → Kind → Bool
+field_open c k = not (has_objects k) || c.shared.lock
+
+-- the instance's variable, which is held where it is used
+abbrev pub uses : CState → Reading → Bool
+uses c y = all_held c (objects_in y.value)
+
+abbrev pub object_variable : Variable → CValue
+object_variable x = operand.Variable x
+
+-- `x = ((struct S *)y)->fJ;`
+abbrev pub load_field : CState → Frame → Variable → FieldPlace → Reading → Kind → Moved
+load_field c f x p y k =
+    need (is_object y.kind && (takes c f x k && may_store_to c f x)) fault.Stuck
+    (need_some (field_value c y.value p.class p.field) fault.BadField (λ v.
+    (need_strictly c (may_read c (object_variable p.object) y && (field_open c k && may_write_to c f x)) fault.Unlocked
+    (need_strictly c (uses c y) fault.Unheld
+    (give (lend (objects_in v) (lend (lends (object_variable p.object) y) c)) f.file x v)))))
+
+-- `((struct S *)y)->fJ = k;`
+abbrev pub store_field : CState → FieldPlace → Reading → Kind → CValue → Reading → Moved
+store_field c p y k a v =
+    need (is_object y.kind && (converts v.kind k && not (is_tuple v.value))) fault.Stuck
+    (need_some (field_value c y.value p.class p.field) fault.BadField (λ old.
+    (need (is_set v.value) fault.Undefined
+    (need_strictly c (may_read c (object_variable p.object) y && (may_read c a v && field_open c k)) fault.Unlocked
+    (need_strictly c (uses c y && owns_moved c v.value) fault.Unheld
+    (Went (set_field y.value p.class p.field v.value (moved v.value old (lend (lends a v) (lend (lends (object_variable p.object) y) c))))))))))
+
+-- `((struct cyc_root *)y)->vt = &cyc_t_M_K;`
+abbrev pub with_table : Numbered → Instance → Instance
+with_table class i = record i { table = Some class }
+
+abbrev pub set_table : Value → Numbered → Instance → CState → CState
+set_table (value.Object (obj.Inst k)) class i c = set_instance k (with_table class i) c
+set_table y class i c = c
+
+abbrev pub store_table : List CFile → CState → Variable → Numbered → Reading → StructTable → Moved
+store_table files c x class y t =
+    need (is_object y.kind) fault.Stuck
+    (need_some (instance_of c y.value) fault.BadField (λ i.
+    (need_strictly c (may_read c (object_variable x) y) fault.Unlocked
+    (need_strictly c (uses c y) fault.Unheld
+    (Went (set_table y.value class i (lend (lends (object_variable x) y) c)))))))
+
+-- `x = PyType_HasFeature(Py_TYPE(y), Py_TPFLAGS_HEAPTYPE);`
+abbrev pub is_heap : Option Instance → Bool
+is_heap None = false
+is_heap (Some i) = by_allocation i.allocation
+  where
+    by_allocation : Allocation → Bool
+    by_allocation allocation.Heap = true
+    by_allocation allocation.Static = false
+
+-- an object is needed
+abbrev pub is_plain : Reading → Bool
+is_plain y = is_object y.kind && not (is_null y.value || is_tuple y.value)
+
+abbrev pub has_heap_type : CState → Frame → Variable → Variable → Reading → Moved
+has_heap_type c f x object y =
+    need (is_plain y && (takes c f x int && may_store_to c f x)) fault.Stuck
+    (need (is_set y.value) fault.Undefined
+    (need_strictly c c.shared.lock fault.Unlocked
+    (need (is_none c.thread.error) fault.ErrorSet
+    (need_strictly c (uses c y) fault.Unheld
+    (give (lend (lends (object_variable object) y) c) f.file x (truth (is_heap (instance_of c y.value))))))))
+
+-- `Py_TYPE(x)->tp_free(x);`: no object or view field holds a reference any more
+abbrev pub field_is_empty : Kind × Value → Bool
+field_is_empty (k, v) = no_objects (objects_in v)
+  where
+    no_objects : List Obj → Bool
+    no_objects [] = true
+    no_objects (o ∷ os) = false
+
+abbrev pub part_is_empty : Part → Bool
+part_is_empty p = list_all field_is_empty p.fields
+
+abbrev pub is_empty : Instance → Bool
+is_empty i = list_all part_is_empty i.parts
+
+abbrev pub freed : Instance → Instance
+freed i = record i { alive = false }
+
+abbrev pub set_freed : Value → Instance → CState → CState
+set_freed (value.Object (obj.Inst k)) i c = set_instance k (freed i) c
+set_freed y i c = c
+
+abbrev pub free : CState → Variable → Reading → Moved
+free c x y =
+    need (is_object y.kind) fault.Stuck
+    (need_some (instance_of c y.value) fault.BadField (λ i.
+    (need_strictly c (may_read c (object_variable x) y) fault.Unlocked
+    (need_strictly c (uses c y) fault.Unheld
+    (need_strictly c (is_empty i) fault.Unbalanced
+    (Went (set_freed y.value i (lend (lends (object_variable x) y) c))))))))
+
+abbrev pub field_statement : List CFile → CState → Frame → FieldPlace → (Reading → Kind → Moved) → Moved
+field_statement files c f p more =
+    need_some (variable_reading c f p.object) fault.Stuck (λ y. need_some (field_kind files p.class p.field) fault.Stuck (more y))
