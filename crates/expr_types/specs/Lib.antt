@@ -1,0 +1,6 @@
+pub mod Casts
+pub mod Expressions
+pub mod Operators
+pub mod Parts
+pub mod Said
+pub mod Targets

@@ -1,0 +1,6 @@
+//! The static types of expressions, the rules that speak of expressions, and what is written at their nodes.
+#![tactic(auto)]
+
+mod said;
+
+pub use said::{Arithmetic, Said, Told};
