@@ -15,7 +15,8 @@ use Rattle.expr_types.specs.declared.said.Said.{Said}
 use Rattle.expr_types.specs.declared.said.Said.TheVariants.{Nothing, Value, Literal}
 use Rattle.expr_types.specs.declared.said.Told.{Told}
 use Rattle.expr_types.specs.Casts.{cast_type, casting}
-use Rattle.expr_types.specs.Operators.{choosing, comparing, conditional, operand, operating, term_kind, unary_of}
+use Rattle.expr_types.specs.Operators.{comparing, operand, operating, term_kind, unary_of}
+use Rattle.expr_types.specs.Joined.{choosing, conditional}
 use Rattle.expr_types.specs.Parts.{Indexed, PartSaid, attribute, call, item, named, one_index, postfix_of, slice}
 use Rattle.expr_types.specs.Said.{Judged, Piece, asking, judged_as, meeting, of_pieces, plain, used}
 

@@ -1,5 +1,6 @@
 pub mod Casts
 pub mod Expressions
+pub mod Joined
 pub mod Operators
 pub mod Parts
 pub mod Said

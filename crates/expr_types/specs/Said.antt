@@ -20,9 +20,12 @@ use Rattle.expr_types.specs.declared.said.Told.{Told}
 abbrev pub breaks : ℕ → ℕ → ℕ → Refusal
 breaks file number offset = record { rule = record { phase = Static; number = number }; file = file; offset = offset }
 
+abbrev pub is_short : ℕ → Bool
+is_short n = nat_lt n 2147483648
+
 -- an integer literal is I32 if it fits, else I64
 abbrev pub literal_type : ℕ → CNum
-literal_type n = if nat_lt n 2147483648 then number.I32 else number.I64
+literal_type n = if is_short n then number.I32 else number.I64
 
 -- above 9223372036854775807
 abbrev pub is_too_large : ℕ → Bool

@@ -1,6 +1,7 @@
 //! The static types of expressions, the rules that speak of expressions, and what is written at their nodes.
 #![tactic(auto)]
 
+mod joined;
 mod operators;
 mod place;
 mod said;

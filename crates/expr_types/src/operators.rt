@@ -1,5 +1,5 @@
 //! Operators: what they give for what they are given.
-ghost use Rattle.std.specs.Prelude.{◌≡◌, ◌++◌, ℕ, OnOk};
+ghost use Rattle.std.specs.Prelude.{◌≡◌, ◌++◌, OnOk, if◌then◌else◌};
 ghost use Rattle.expr_types.specs.declared.said.Said.TheVariants.{Literal};
 ghost use Rattle.expr_types.specs.Operators.{beside, compared, comparison_broken, computed, how_beside, if_numbers, is_least_literal, is_operand, large_beside, of_number, of_numbers, of_operand, operated, operator_broken, term_kind, unary_broken, unary_said, undefined_operator, with_object};
 

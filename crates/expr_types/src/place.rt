@@ -2,7 +2,7 @@
 ghost use Rattle.std.specs.Prelude.{◌≡◌, ◌++◌, ℕ, OnOk};
 ghost use Rattle.expr_types.specs.declared.said.Said.TheVariants.{Literal};
 ghost use Rattle.first_breach.specs.First.{broken_if};
-ghost use Rattle.expr_types.specs.Said.{breaks, fits, how_met, if_fine, is_lacking, is_nothing, is_object, is_too_large, literal_type, misused, number_of, plain, settled, told_as, too_large, type_written, uncoerced, written};
+ghost use Rattle.expr_types.specs.Said.{breaks, fits, how_met, if_fine, is_lacking, is_nothing, is_object, is_short, is_too_large, literal_type, misused, number_of, plain, settled, told_as, too_large, type_written, uncoerced, written};
 
 use crate::said::{Said, Told};
 use cy_around::Around;
@@ -33,14 +33,16 @@ pub(crate) fn note_if(is_broken: bool, next: Refusal, broken: &mut Vec<Refusal>)
     Ok(())
 }
 
+pub(crate) fn is_short(n: u128) -> bool
+    ensures { result ≡ is_short n }
+{
+    n < 2_147_483_648
+}
+
 pub(crate) fn literal_type(n: u128) -> CNum
     ensures { result ≡ literal_type n }
 {
-    if n < 2_147_483_648 {
-        CNum::I32
-    } else {
-        CNum::I64
-    }
+    if is_short(n) { CNum::I32 } else { CNum::I64 }
 }
 
 pub(crate) fn is_too_large(n: u128) -> bool
