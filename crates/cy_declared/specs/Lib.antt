@@ -1,0 +1,5 @@
+pub mod Around
+pub mod Functions
+pub mod Members
+pub mod Types
+pub mod Variables

@@ -1,0 +1,122 @@
+-- The types that the words of a declaration mean (Cython documentation, "Language Basics", C types; "Typed Memoryviews").
+use Rattle.std.specs.Prelude.{ℕ, suc, Bool, true, false, if◌then◌else◌, nat_eq, nat_lt, List, [], ◌∷◌, Option, Some, None, length, codes}
+use Rattle.std.specs.Str.{bytes_eq}
+use Rattle.cy_num.specs.declared.types.CNum.{CNum}
+use Rattle.cy_num.specs.declared.types.CNum.TheVariants as number
+use Rattle.cy_tree.specs.declared.set.NameKind.{NameKind}
+use Rattle.cy_tree.specs.declared.set.NameKind.TheVariants as kind
+use Rattle.cy_tree.specs.declared.set.NamedSet.{NamedSet}
+use Rattle.cy_tree.specs.declared.ty.Ty.{Ty}
+use Rattle.cy_tree.specs.declared.ty.Ty.TheVariants as ty
+use Rattle.cy_tree.specs.declared.types.Dim.{Dim}
+use Rattle.cy_tree.specs.declared.types.NumberWords.{NumberWords}
+use Rattle.cy_tree.specs.declared.types.NumberWords.TheVariants as words
+use Rattle.cy_tree.specs.declared.types.TypeName.{TypeName}
+use Rattle.cy_tree.specs.declared.types.TypeName.TheVariants as type
+use Rattle.cy_tree.specs.declared.types.TypeNode.{TypeNode}
+use Rattle.cy_scope.specs.declared.known.Known.{Known}
+use Rattle.cy_scope.specs.Declarations.{kind_through}
+use Rattle.cy_scope.specs.Scopes.{resolved_among, scopes_shown}
+
+-- the table of number words
+abbrev pub words_meant : NumberWords → Ty
+words_meant words.SignedChar = ty.Num number.I8
+words_meant words.UnsignedChar = ty.Num number.U8
+words_meant words.Short = ty.Num number.I16
+words_meant words.ShortInt = ty.Num number.I16
+words_meant words.UnsignedShort = ty.Num number.U16
+words_meant words.UnsignedShortInt = ty.Num number.U16
+words_meant words.Int = ty.Num number.I32
+words_meant words.Unsigned = ty.Num number.U32
+words_meant words.UnsignedInt = ty.Num number.U32
+words_meant words.Long = ty.Num number.I64
+words_meant words.LongInt = ty.Num number.I64
+words_meant words.LongLong = ty.Num number.I64
+words_meant words.LongLongInt = ty.Num number.I64
+words_meant words.UnsignedLong = ty.Num number.U64
+words_meant words.UnsignedLongInt = ty.Num number.U64
+words_meant words.UnsignedLongLong = ty.Num number.U64
+words_meant words.UnsignedLongLongInt = ty.Num number.U64
+words_meant words.PySsizeT = ty.Num number.I64
+words_meant words.SizeT = ty.Num number.U64
+words_meant words.Bint = ty.Bint
+words_meant words.Void = ty.Void
+
+-- ---- names
+
+-- what a name means in a scope of a set
+abbrev pub meaning_in : NamedSet → ℕ → List ℕ → NameKind
+meaning_in set scope name = resolved_among (scopes_shown set.scopes) scope name
+
+abbrev pub class_type : Option NameKind → Option Ty
+class_type (Some (kind.Class id)) = Some (ty.Class id)
+class_type _ = None
+
+-- `object` is always the type; else a class of the scope; `m.A` is a class that the `.pxd` of the module m declares
+abbrev pub name_meant : Known → NamedSet → ℕ → TypeName → Option Ty
+name_meant known set scope (type.Number w) = Some (words_meant w)
+name_meant known set scope (type.Named i) = if bytes_eq i.text (codes "object") then Some ty.Object else class_type (Some (meaning_in set scope i.text))
+name_meant known set scope (type.Member outer i) = class_type (kind_through known (Some (meaning_in set scope outer.text)) i.text)
+
+-- ---- views
+
+abbrev pub as_number : Ty → Option CNum
+as_number (ty.Num t) = Some t
+as_number _ = None
+
+-- the element of a view: a C number type
+abbrev pub element : TypeName → Option CNum
+element (type.Number w) = as_number (words_meant w)
+element _ = None
+
+abbrev pub last_is_contiguous : Option ℕ → Option Bool
+last_is_contiguous None = Some false
+last_is_contiguous (Some n) = if nat_eq n 1 then Some true else None
+
+abbrev pub without_number : Option ℕ → Option Bool → Option Bool
+without_number None more = more
+without_number (Some n) more = None
+
+-- whether the dimensions end with `::1`; None where a `::` isn't last or has another number
+abbrev pub contiguity : List Dim → Option Bool
+contiguity [] = Some false
+contiguity (d ∷ []) = last_is_contiguous d.step
+contiguity (d ∷ e ∷ ds) = without_number d.step (contiguity (e ∷ ds))
+
+-- a view has 1 to 3 dimensions
+abbrev pub view_of : TypeNode → Option CNum → Option Bool → Option Ty
+view_of t (Some elem) (Some contiguous) =
+    if nat_lt (length t.dims) 4 then Some (ty.View (record { elem = elem; dims = length t.dims; constant = t.constant; contiguous = contiguous })) else None
+view_of t _ _ = None
+
+-- ---- types
+
+-- without brackets there is no `const`
+abbrev pub with_dims : TypeNode → Option Ty → List Dim → Option Ty
+with_dims t plain [] = if t.constant then None else plain
+with_dims t plain (d ∷ ds) = view_of t (element t.name) (contiguity t.dims)
+
+-- the type that is meant in a scope; None where a rule on types is broken in it
+abbrev pub type_meant : Known → NamedSet → ℕ → TypeNode → Option Ty
+type_meant known set scope t = with_dims t (name_meant known set scope t.name) t.dims
+
+abbrev pub maybe_meant : Known → NamedSet → ℕ → Option TypeNode → Option Ty
+maybe_meant known set scope None = Some ty.Object
+maybe_meant known set scope (Some t) = type_meant known set scope t
+
+abbrev pub or_object : Option Ty → Ty
+or_object None = ty.Object
+or_object (Some t) = t
+
+-- `void` is a type for results alone
+abbrev pub as_place : Option Ty → Option Ty
+as_place (Some ty.Void) = None
+as_place t = t
+
+-- The type of a result, and that of a parameter, a field or a variable. A type that isn't written is `object`, and so is one in which a
+-- rule on types is broken, of which nothing more is to be said.
+abbrev pub result_type : Known → NamedSet → ℕ → Option TypeNode → Ty
+result_type known set scope t = or_object (maybe_meant known set scope t)
+
+abbrev pub place_type : Known → NamedSet → ℕ → Option TypeNode → Ty
+place_type known set scope t = or_object (as_place (maybe_meant known set scope t))
