@@ -1,6 +1,6 @@
 -- Runs of small programs, computed: their traces, and the faults of wrong C.
-use Rattle.std.proofs.Common.{◌≡◌, ℕ, true, false, List, [], ◌∷◌, ◌++◌, Option, Some, None, refl, map}
-use Rattle.std.specs.Prelude.{codes, ℤ, pos, negsuc}
+use Rattle.std.proofs.Common.{◌≡◌, ℕ, true, List, [], ◌∷◌, ◌++◌, Option, Some, None, refl}
+use Rattle.std.specs.Prelude.{codes, pos}
 use Prim.Native.String.{String}
 use Rattle.c_token.specs.declared.exception.Exception.TheVariants as exception
 use Rattle.api_model.specs.declared.object.Obj.{Obj}
@@ -43,13 +43,10 @@ use Rattle.c_tree.specs.declared.item.Declaration.{Declaration}
 use Rattle.c_tree.specs.declared.item.InitialValue.TheVariants as initial
 use Rattle.c_tree.specs.declared.item.Line.{Line}
 use Rattle.c_tree.specs.declared.item.Line.TheVariants as line
-use Rattle.c_state.specs.declared.step.FaultKind.TheVariants as fault
-use Rattle.c_state.specs.declared.step.Step.TheVariants as step
 use Rattle.api_model.specs.Rows as rows
 use Rattle.cy_num.specs.Wrapping as wrapping
 use Rattle.c_state.specs.ApiNames.{api_of, all_names, sums, shifts, sums_in_place, shifts_in_place, protocols, made_objects, modules_and_types, changes, numbers, exceptions, counts_and_lock, tests}
-use Rattle.c_state.specs.State.{linked}
-use Rattle.c_state.specs.Machine.{c_step, c_steps, c_events, bare_events}
+use Rattle.c_state.specs.Machine.{c_events}
 
 -- the C of `def f(a, b): return a + b` in a module m
 

@@ -1,5 +1,6 @@
 -- `x = k;`, `x = k OP k;`, `x = ~k;`, `x = (T)k;` and jumps (ISO/IEC 9899:2011 6.5.3.3 to 6.5.16, 6.8.6.1).
-use Rattle.std.specs.Prelude.{zero, Bool, true, false, not, ◌&&◌, ◌||◌, List, Option, Some, None, ℤ, pos, is_none}
+use Rattle.api_model.specs.declared.object.Obj.{Obj}
+use Rattle.std.specs.Prelude.{zero, Bool, true, false, not, ◌&&◌, ◌||◌, List, Option, Some, None, ℤ, pos, is_none, ℕ, ◌++◌, []}
 use Rattle.cy_num.specs.declared.types.CNum.{CNum}
 use Rattle.cy_num.specs.Wrapping.{wrap}
 use Rattle.c_tree.specs.declared.name.Variable.{Variable}
@@ -22,18 +23,20 @@ use Rattle.c_state.specs.declared.value.Value.{Value}
 use Rattle.c_state.specs.declared.value.Value.TheVariants as value
 use Rattle.c_state.specs.declared.value.Reading.{Reading}
 use Rattle.c_state.specs.Values.{kind_of, int, converts, is_number, is_view, are_pointers, is_set, same_pointer}
-use Rattle.c_state.specs.State.{Frame, CState, in_frame}
-use Rattle.c_state.specs.Moved.{Moved, Went, need, need_some, need_strictly}
-use Rattle.c_state.specs.Reads.{read, lends, lend, may_read, takes}
+use Rattle.c_state.specs.State.{Frame, CState}
+use Rattle.c_state.specs.declared.change.Planned.{Planned}
+use Rattle.c_state.specs.declared.change.Planned.TheVariants.{Does}
+use Rattle.c_state.specs.Planned.{need, need_some, need_strictly, nothing, lending}
+use Rattle.c_state.specs.Reads.{read, lends, may_read, takes}
 use Rattle.c_state.specs.Stores.{give, may_store_to, may_write_to}
 
 -- `x = k;`
-abbrev pub assign : CState → Frame → Variable → CValue → Reading → Moved
+abbrev pub assign : CState → Frame → Variable → CValue → Reading → Planned
 assign c f x k v =
     need (takes c f x v.kind && may_store_to c f x) fault.Stuck
     (need (is_set v.value) fault.Undefined
     (need_strictly c (may_read c k v && may_write_to c f x) fault.Unlocked
-    (give (lend (lends k v) c) f.file x v.value)))
+    (give c f x v.value (lending (lends k v)))))
 
 -- ---- operators
 
@@ -75,26 +78,26 @@ abbrev pub both_set : Reading → Reading → Bool
 both_set v w = is_set v.value && is_set w.value
 
 -- `x = k OP k;`
-abbrev pub binary : CState → Frame → Variable → CValue → Reading → BinaryOp → CValue → Reading → Moved
+abbrev pub binary : CState → Frame → Variable → CValue → Reading → BinaryOp → CValue → Reading → Planned
 binary c f x a v o b w =
     need (may_compute v o w) fault.Stuck
     (need (takes c f x int && may_store_to c f x) fault.Stuck
     (need (both_set v w) fault.Undefined
     (need_some (computed_of v o w) fault.Undefined (λ r.
     (need_strictly c (may_read c a v && (may_read c b w && may_write_to c f x)) fault.Unlocked
-    (give (lend (lends b w) (lend (lends a v) c)) f.file x r.1))))))
+    (give c f x r.1 (lending (lends a v ++ lends b w))))))))
 
 abbrev pub inverse_of : Kind → Value → Value
 inverse_of (kind.Number t) (value.Number a) = value.Number (inverted (number t a)).value
 inverse_of k v = v
 
 -- `x = ~k;`
-abbrev pub invert : CState → Frame → Variable → CValue → Reading → Moved
+abbrev pub invert : CState → Frame → Variable → CValue → Reading → Planned
 invert c f x k v =
     need (is_number v.kind && (takes c f x int && may_store_to c f x)) fault.Stuck
     (need (is_set v.value) fault.Undefined
     (need_strictly c (may_read c k v && may_write_to c f x) fault.Unlocked
-    (give c f.file x (inverse_of v.kind v.value))))
+    (give c f x (inverse_of v.kind v.value) nothing)))
 
 -- `x = (T)k;`: a number to a number type, or a pointer to its own type
 abbrev pub cast_value : Kind → Value → Value
@@ -105,45 +108,40 @@ cast_value k v = v
 abbrev pub may_cast : Kind → Kind → Bool
 may_cast from to = converts from to && not (is_view to)
 
-abbrev pub cast : CState → Frame → Variable → CType → CValue → Reading → Moved
+abbrev pub cast : CState → Frame → Variable → CType → CValue → Reading → Planned
 cast c f x t k v =
     need (may_cast v.kind (kind_of t) && (takes c f x (kind_of t) && may_store_to c f x)) fault.Stuck
     (need (is_set v.value) fault.Undefined
     (need_strictly c (may_read c k v && may_write_to c f x) fault.Unlocked
-    (give (lend (lends k v) c) f.file x (cast_value (kind_of t) v.value))))
+    (give c f x (cast_value (kind_of t) v.value) (lending (lends k v)))))
 
 -- ---- jumps
 
-abbrev pub set_code : List Line → Frame → Frame
-set_code ls f = record f { code = ls }
-
-abbrev pub jump : List Line → CState → CState
-jump ls c = in_frame (set_code ls) c
-
-abbrev pub branch : CState → List Line → Bool → Moved
-branch c ls true = Went (jump ls c)
-branch c ls false = Went c
+-- a jump to a label where a test holds, beside loans
+abbrev pub branch : ℕ → List Obj → Bool → Planned
+branch label os true = Does (record nothing { lends = os; jumps = Some label })
+branch label os false = Does (lending os)
 
 abbrev pub is_true : Value → Bool
 is_true (value.Number (pos zero)) = false
 is_true _ = true
 
 -- `if (k OP k) goto L;`
-abbrev pub goto_compare : CState → List Line → CValue → Reading → BinaryOp → CValue → Reading → Moved
-goto_compare c ls a v o b w =
+abbrev pub goto_compare : CState → ℕ → CValue → Reading → BinaryOp → CValue → Reading → Planned
+goto_compare c label a v o b w =
     need (may_compute v o w) fault.Stuck
     (need (both_set v w) fault.Undefined
     (need_some (computed_of v o w) fault.Undefined (λ r.
     (need_strictly c (may_read c a v && may_read c b w) fault.Unlocked
-    (branch (lend (lends b w) (lend (lends a v) c)) ls (is_true r.1))))))
+    (branch label (lends a v ++ lends b w) (is_true r.1))))))
 
 -- `if (PyErr_Occurred()) goto L;`
-abbrev pub goto_error : CState → List Line → Moved
-goto_error c ls = need_strictly c c.shared.lock fault.Unlocked (branch c ls (not (is_none c.thread.error)))
+abbrev pub goto_error : CState → ℕ → Planned
+goto_error c label = need_strictly c c.shared.lock fault.Unlocked (branch label [] (not (is_none c.thread.error)))
 
-abbrev pub goto : List CFile → CState → Frame → CTest → List Line → Moved
-goto files c f (test.Compare a o b) ls =
+abbrev pub goto : List CFile → CState → Frame → CTest → ℕ → List Line → Planned
+goto files c f (test.Compare a o b) label ls =
     need_some (read files c f a) fault.Stuck (λ v.
-    need_some (read files c f b) fault.Stuck (λ w. goto_compare c ls a v o b w))
-goto files c f test.ErrorSet ls = goto_error c ls
-goto files c f test.Always ls = Went (jump ls c)
+    need_some (read files c f b) fault.Stuck (λ w. goto_compare c label a v o b w))
+goto files c f test.ErrorSet label ls = goto_error c label
+goto files c f test.Always label ls = branch label [] true

@@ -9,13 +9,16 @@ use Rattle.c_tree.specs.declared.statement.ViewNumber.{ViewNumber}
 use Rattle.c_tree.specs.declared.statement.ViewNumber.TheVariants as told
 use Rattle.c_state.specs.declared.step.FaultKind.TheVariants as fault
 use Rattle.c_state.specs.declared.kind.Kind.{Kind}
+use Rattle.c_state.specs.declared.kind.Kind.TheVariants as kind
 use Rattle.c_state.specs.declared.value.Value.{Value}
 use Rattle.c_state.specs.declared.value.Value.TheVariants as value
 use Rattle.c_state.specs.declared.value.Reading.{Reading}
-use Rattle.c_state.specs.Values.{int, size, is_set}
+use Rattle.c_state.specs.Values.{fits, int, size, is_set}
 use Rattle.c_state.specs.State.{Frame, CState}
-use Rattle.c_state.specs.Moved.{Moved, Went, Faulted, need, need_some, need_strictly}
-use Rattle.c_state.specs.Reads.{lends, lend, takes}
+use Rattle.c_state.specs.declared.change.Planned.{Planned}
+use Rattle.c_state.specs.declared.change.Planned.TheVariants.{Fault, Does}
+use Rattle.c_state.specs.Planned.{need, need_some, need_strictly, nothing, lending}
+use Rattle.c_state.specs.Reads.{lends, takes}
 use Rattle.c_state.specs.Stores.{give, may_store_to, may_write_to}
 use Rattle.c_state.specs.Assignments.{truth}
 use Rattle.c_state.specs.Places.{has_letter}
@@ -53,7 +56,7 @@ format_fits format letters = is_one_of letters (without_at format)
 
 -- A statement that asks a memory view: it is one, the lock is held, no exception is set, and the view is held. What it asks
 -- is none where the operand is no memory view, or lacks it.
-abbrev pub told_by : {A : Type 0} → CState → Reading → Bool → Option A → (A → Moved) → Moved
+abbrev pub told_by : {A : Type 0} → CState → Reading → Bool → Option A → (A → Planned) → Planned
 told_by c y goes asked more =
     need (is_plain y && (goes && (not (is_set y.value) || not (is_none asked)))) fault.Stuck
     (need (is_set y.value) fault.Undefined
@@ -70,31 +73,31 @@ abbrev pub goes_to : CState → Frame → Variable → Kind → Bool
 goes_to c f x k = takes c f x k && may_store_to c f x
 
 -- `x = PyMemoryView_GET_BUFFER(y)->ndim;` and the like
-abbrev pub view_number : CState → Frame → Variable → Variable → ViewNumber → Reading → Moved
+abbrev pub view_number : CState → Frame → Variable → Variable → ViewNumber → Reading → Planned
 view_number c f x object n y =
     told_by c y (goes_to c f x size) (of_info (number_of n) (info_of c y.value))
-    (λ z. give (lend (lends (object_variable object) y) c) f.file x (value.Number z))
+    (λ z. give c f x (value.Number z) (lending (lends (object_variable object) y)))
 
 -- `x = PyMemoryView_GET_BUFFER(y)->suboffsets != NULL;`
-abbrev pub is_indirect : CState → Frame → Variable → Variable → Reading → Moved
+abbrev pub is_indirect : CState → Frame → Variable → Variable → Reading → Planned
 is_indirect c f x object y =
     told_by c y (goes_to c f x int) (info_of c y.value)
-    (λ i. give (lend (lends (object_variable object) y) c) f.file x (truth i.indirect))
+    (λ i. give c f x (truth i.indirect) (lending (lends (object_variable object) y)))
 
 -- `x = cyc_fmt(PyMemoryView_GET_BUFFER(y)->format, "lqn");`
-abbrev pub has_format : CState → Frame → Variable → Variable → List ℕ → Reading → Moved
+abbrev pub has_format : CState → Frame → Variable → Variable → List ℕ → Reading → Planned
 has_format c f x object letters y =
     told_by c y (goes_to c f x int) (info_of c y.value)
-    (λ i. give (lend (lends (object_variable object) y) c) f.file x (truth (has_letter letters i)))
+    (λ i. give c f x (truth (has_letter letters i)) (lending (lends (object_variable object) y)))
 
 -- `x = cyc_fmt("l", "lqn");`
-abbrev pub format_test : CState → Frame → Option Variable → List Reading → Moved
-format_test c f None (v ∷ w ∷ []) = Went c
+abbrev pub format_test : CState → Frame → Option Variable → List Reading → Planned
+format_test c f None (v ∷ w ∷ []) = need (fits (kind.Text ∷ kind.Text ∷ []) (v ∷ w ∷ [])) fault.Stuck (Does nothing)
 format_test c f (Some x) (v ∷ w ∷ []) = by_values v.value w.value
   where
-    by_values : Value → Value → Moved
+    by_values : Value → Value → Planned
     by_values (value.Text format) (value.Text letters) =
         need (goes_to c f x int) fault.Stuck
-        (need_strictly c (may_write_to c f x) fault.Unlocked (give c f.file x (truth (format_fits format letters))))
-    by_values v w = Faulted fault.Stuck
-format_test c f x vs = Faulted fault.Stuck
+        (need_strictly c (may_write_to c f x) fault.Unlocked (give c f x (truth (format_fits format letters)) nothing))
+    by_values v w = Fault fault.Stuck
+format_test c f x vs = Fault fault.Stuck

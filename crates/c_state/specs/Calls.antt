@@ -26,14 +26,16 @@ use Rattle.c_state.specs.declared.space.Instance.{Instance}
 use Rattle.c_state.specs.declared.frame.Cell.{Cell}
 use Rattle.c_state.specs.declared.frame.Entered.{Entered}
 use Rattle.c_state.specs.declared.frame.Entered.TheVariants as entered
-use Rattle.c_state.specs.declared.frame.Doing.{Doing}
 use Rattle.c_state.specs.declared.frame.Doing.TheVariants as doing
-use Rattle.c_state.specs.Linked.{Found, FoundFunction, NotFound, function_named, table_of, functions_of, table_struct_of, adds_slot, begins_with, item_count}
+use Rattle.c_state.specs.declared.change.FunctionPlace.{FunctionPlace}
+use Rattle.c_state.specs.Linked.{function_named, function_at, table_of, functions_of, table_struct_of, adds_slot, begins_with, item_count}
 use Rattle.c_state.specs.Values.{kind_of, int, size, converted, initial_value, is_object, all_set, passed, values_of, fits}
-use Rattle.c_state.specs.Ledger.{enter}
-use Rattle.c_state.specs.State.{Frame, CState, with_frames, with_ledger, in_frame, all_held, instance_of}
-use Rattle.c_state.specs.Moved.{Moved, Went, Faulted, need, need_some, need_strictly}
-use Rattle.c_state.specs.Reads.{receives, lends, lends_each, lend, may_read, may_read_each}
+use Rattle.c_state.specs.State.{Frame, CState, all_held, instance_of}
+use Rattle.c_state.specs.declared.change.Planned.{Planned}
+use Rattle.c_state.specs.declared.change.Planned.TheVariants.{Fault, Does}
+use Rattle.c_state.specs.declared.change.Change.{Change}
+use Rattle.c_state.specs.Planned.{need, need_some, need_strictly, nothing}
+use Rattle.c_state.specs.Reads.{receives, lends, lends_each, may_read, may_read_each}
 use Rattle.c_state.specs.Fields.{object_variable, uses}
 
 -- ---- the types of a function
@@ -104,17 +106,7 @@ frame_of k fn vs by lock = record {
   lock = lock;
 }
 
--- a function is entered: these objects are lent to it
-abbrev pub entering : ℕ → CFunction → List Value → List Obj → Entered → CState → CState
-entering k fn vs os by c = with_ledger (enter os c.thread.ledger) (with_frames (frame_of k fn vs by c.shared.lock ∷ c.thread.frames) c)
-
 -- ---- calls
-
-abbrev pub set_doing : Doing → Frame → Frame
-set_doing d f = record f { doing = d }
-
-abbrev pub wait : Option Variable → CState → CState
-wait x c = in_frame (set_doing (doing.Waits x)) c
 
 -- whether a result can go where the call sends it: a `void` function gives none
 abbrev pub receives_result : CState → Frame → Option Variable → Option Kind → Bool
@@ -122,23 +114,39 @@ receives_result c f None k = true
 receives_result c f (Some x) None = false
 receives_result c f (Some x) (Some k) = receives c f (Some x) k
 
-abbrev pub call_found : CState → Frame → Option Variable → List Argument → List Reading → Found → Moved
-call_found c f x ks vs NotFound = Faulted fault.Stuck
-call_found c f x ks vs (FoundFunction k fn) =
-    need (fits (kinds_of (parameters fn.head)) vs && receives_result c f x (result_kind fn.head)) fault.Stuck
+-- a function is entered from C, and the newest frame waits for its result
+abbrev pub calling : FunctionPlace → Option Variable → List Reading → List Obj → Change
+calling p x vs os = record nothing {
+  lends = os;
+  doing = Some (doing.Waits x);
+  enters = Some (record { function = p; values = values_of vs; lent = passed vs; by = entered.FromC });
+}
+
+-- whether the operands are those of a function, and its result can go where it is sent
+abbrev pub suits : CState → Frame → Option Variable → List Reading → CHead → Bool
+suits c f x vs h = fits (kinds_of (parameters h)) vs && receives_result c f x (result_kind h)
+
+abbrev pub suits_found : CState → Frame → Option Variable → List Reading → Option CFunction → Bool
+suits_found c f x vs None = false
+suits_found c f x vs (Some fn) = suits c f x vs fn.head
+
+abbrev pub call_found : List CFile → CState → Frame → Option Variable → List Argument → List Reading → List Obj → Option FunctionPlace → Planned
+call_found files c f x ks vs os None = Fault fault.Stuck
+call_found files c f x ks vs os (Some p) =
+    need (suits_found c f x vs (function_at files p)) fault.Stuck
     (need (all_set vs) fault.Undefined
     (need_strictly c (may_read_each c ks vs) fault.Unlocked
     (need_strictly c (all_held c (passed vs)) fault.Unheld
-    (Went (entering k fn (values_of vs) (passed vs) entered.FromC (wait x (lend (lends_each ks vs) c)))))))
+    (Does (calling p x vs (os ++ lends_each ks vs))))))
 
 -- an initialisation function has no name of the profile
-abbrev pub callable : List CFile → ℕ → FunctionName → Found
-callable files k (function.Initializer n) = NotFound
+abbrev pub callable : List CFile → ℕ → FunctionName → Option FunctionPlace
+callable files k (function.Initializer n) = None
 callable files k name = function_named files k name
 
 -- `x = cyc_f_M_K(k, ..);`
-abbrev pub call : List CFile → CState → Frame → Option Variable → FunctionName → List Argument → List Reading → Moved
-call files c f x name ks vs = call_found c f x ks vs (callable files f.file name)
+abbrev pub call : List CFile → CState → Frame → Option Variable → FunctionName → List Argument → List Reading → Planned
+call files c f x name ks vs = call_found files c f x ks vs [] (callable files f.file name)
 
 -- ---- `x = ((const struct V *)((struct cyc_root *)y)->vt)->mJ(k, ..);`
 
@@ -156,21 +164,21 @@ abbrev pub method_of : List CFile → Numbered → ℕ → Option Instance → O
 method_of files class j None = None
 method_of files class j (Some i) = in_table files class j (table_in_instance files i.table)
 
-abbrev pub call_slot : List CFile → CState → Frame → Option Variable → Variable → Reading → List Argument → List Reading → FunctionName → Moved
-call_slot files c f x object y ks vs name =
-    need_strictly c (may_read c (object_variable object) y) fault.Unlocked
+abbrev pub function_of : List CFile → Option FunctionPlace → Option CFunction
+function_of files None = None
+function_of files (Some p) = function_at files p
+
+abbrev pub call_slot : List CFile → CState → Frame → Option Variable → Variable → Reading → List Argument → List Reading → Option FunctionPlace → Planned
+call_slot files c f x object y ks vs p =
+    need (suits_found c f x vs (function_of files p)) fault.Stuck
+    (need (all_set vs) fault.Undefined
+    (need_strictly c (may_read c (object_variable object) y) fault.Unlocked
+    (need_strictly c (may_read_each c ks vs) fault.Unlocked
     (need_strictly c (uses c y) fault.Unheld
-    (call_found (lend (lends (object_variable object) y) c) f x ks vs (callable files f.file name)))
+    (call_found files c f x ks vs (lends (object_variable object) y) p)))))
 
--- the tests of the call itself come first
-abbrev pub call_tests : CState → Frame → Option Variable → List Reading → Found → Bool
-call_tests c f x vs NotFound = false
-call_tests c f x vs (FoundFunction k fn) = fits (kinds_of (parameters fn.head)) vs && receives_result c f x (result_kind fn.head)
-
-abbrev pub call_method : List CFile → CState → Frame → Option Variable → Numbered → Variable → ℕ → Reading → List Argument → List Reading → Moved
+abbrev pub call_method : List CFile → CState → Frame → Option Variable → Numbered → Variable → ℕ → Reading → List Argument → List Reading → Planned
 call_method files c f x class object j y ks vs =
     need (is_object y.kind && adds_slot (table_struct_of files class) j) fault.Stuck
     (need_some (method_of files class j (instance_of c y.value)) fault.BadField (λ name.
-    (need (call_tests c f x vs (callable files f.file name)) fault.Stuck
-    (need (all_set vs) fault.Undefined
-    (call_slot files c f x object y ks vs name)))))
+    call_slot files c f x object y ks vs (callable files f.file name)))

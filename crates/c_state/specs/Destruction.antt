@@ -1,5 +1,5 @@
 -- When an instance is destroyed, and by which code (Python/C API manual, "Type Objects", `tp_dealloc`).
-use Rattle.std.specs.Prelude.{ℕ, Bool, false, ◌&&◌, ◌||◌, List, [], ◌∷◌, Option, Some, None, if◌then◌else◌}
+use Rattle.std.specs.Prelude.{ℕ, Bool, false, ◌&&◌, ◌||◌, List, [], ◌∷◌, Option, Some, None, if◌then◌else◌, true}
 use Rattle.std.specs.List.{list_any}
 use Rattle.api_model.specs.declared.object.Obj.{Obj}
 use Rattle.api_model.specs.declared.object.Obj.TheVariants as obj
@@ -15,10 +15,12 @@ use Rattle.c_state.specs.declared.space.Spot.{Spot}
 use Rattle.c_state.specs.declared.space.Part.{Part}
 use Rattle.c_state.specs.declared.space.Instance.{Instance}
 use Rattle.c_state.specs.declared.frame.Entered.TheVariants as entered
-use Rattle.c_state.specs.Linked.{Found, FoundFunction, NotFound, function_named, type_at}
+use Rattle.c_state.specs.Linked.{function_named, type_at}
 use Rattle.c_state.specs.Ledger.{in_use}
+use Rattle.c_state.specs.declared.change.Change.{Change}
+use Rattle.c_state.specs.declared.change.FunctionPlace.{FunctionPlace}
+use Rattle.c_state.specs.Planned.{nothing}
 use Rattle.c_state.specs.State.{CState, instance_at, value_is}
-use Rattle.c_state.specs.Calls.{entering}
 
 -- whether a place, or a field of an instance that wasn't freed, holds an object
 abbrev pub spot_holds : Obj → Spot → Bool
@@ -46,24 +48,30 @@ is_kept c o =
     in_use c.thread.ledger.accounts o || (is_error c.thread.error o
     || (list_any (spots_hold o) c.shared.places || list_any (instance_holds o) c.shared.instances))
 
-abbrev pub dealloc_of : List CFile → ℕ → Option Numbered → Found
-dealloc_of files k None = NotFound
+abbrev pub dealloc_of : List CFile → ℕ → Option Numbered → Option FunctionPlace
+dealloc_of files k None = None
 dealloc_of files k (Some n) = function_named files k (function.Dealloc n)
 
-abbrev pub dealloc_in : List CFile → ℕ → Option TypeObject → Found
-dealloc_in files k None = NotFound
+abbrev pub dealloc_in : List CFile → ℕ → Option TypeObject → Option FunctionPlace
+dealloc_in files k None = None
 dealloc_in files k (Some t) = dealloc_of files k t.dealloc
 
 -- the dealloc code of an instance that may be destroyed
-abbrev pub destroyer : List CFile → CState → ℕ → Option Instance → Found
-destroyer files c k None = NotFound
-destroyer files c k (Some i) = if is_kept c (obj.Inst k) then NotFound else dealloc_in files i.class.file (type_at files i.class)
+abbrev pub destroyer : List CFile → CState → ℕ → Option Instance → Option FunctionPlace
+destroyer files c k None = None
+destroyer files c k (Some i) = if is_kept c (obj.Inst k) then None else dealloc_in files i.class.file (type_at files i.class)
 
-abbrev pub destroying : CState → ℕ → Found → CState
-destroying c k NotFound = c
-destroying c k (FoundFunction j fn) =
-    entering j fn (value.Object (obj.Inst k) ∷ []) (obj.Inst k ∷ []) (entered.ForDestruction k) c
+-- an entry is taken, and nothing comes of it
+abbrev pub skipping : Change
+skipping = record nothing { takes = true }
 
--- `die K`: the dealloc code is entered, with the instance lent to it; without the ledger the entry is skipped
-abbrev pub die : List CFile → CState → ℕ → CState
-die files c k = if c.strict then destroying c k (destroyer files c k (instance_at c k)) else c
+-- the dealloc code is entered, with the instance lent to it
+abbrev pub destroying : ℕ → Option FunctionPlace → Change
+destroying k None = skipping
+destroying k (Some p) = record skipping {
+  enters = Some (record { function = p; values = value.Object (obj.Inst k) ∷ []; lent = obj.Inst k ∷ []; by = entered.ForDestruction k });
+}
+
+-- `die K`; without the ledger the entry is skipped
+abbrev pub die : List CFile → CState → ℕ → Change
+die files c k = if c.strict then destroying k (destroyer files c k (instance_at c k)) else skipping

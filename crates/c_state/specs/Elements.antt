@@ -1,5 +1,6 @@
 -- Elements of views. What a read gives comes from the script (Cython documentation, "Typed Memoryviews"; the project's own).
-use Rattle.std.specs.Prelude.{ℕ, Bool, ◌&&◌, ◌||◌, List, [], ◌∷◌, Option, Some, None, ℤ, pos, ◌+ℤ◌, slice_get, if◌then◌else◌}
+use Rattle.api_model.specs.declared.object.Obj.{Obj}
+use Rattle.std.specs.Prelude.{ℕ, Bool, ◌&&◌, ◌||◌, List, [], ◌∷◌, Option, Some, None, ℤ, pos, ◌+ℤ◌, slice_get, drop, if◌then◌else◌, true}
 use Rattle.cy_num.specs.declared.types.CNum.{CNum}
 use Rattle.cy_num.specs.Wrapping.{wrap}
 use Rattle.api_model.specs.declared.object.Obj.TheVariants as obj
@@ -22,9 +23,12 @@ use Rattle.c_state.specs.declared.space.Course.TheVariants as course
 use Rattle.c_state.specs.Values.{kind_of, is_number, is_view, is_set, same_int}
 use Rattle.c_ledger.specs.Ledger.{has}
 use Rattle.c_state.specs.Ledger.{owned, lent}
-use Rattle.c_state.specs.State.{Frame, CState, with_script, with_course, tell}
-use Rattle.c_state.specs.Moved.{Moved, Went, need, need_some, need_strictly}
-use Rattle.c_state.specs.Reads.{lends, lend, may_read, takes}
+use Rattle.c_state.specs.State.{Frame, CState}
+use Rattle.c_state.specs.declared.change.Planned.{Planned}
+use Rattle.c_state.specs.declared.change.Planned.TheVariants.{Does}
+use Rattle.c_state.specs.declared.change.Change.{Change}
+use Rattle.c_state.specs.Planned.{need, need_some, need_strictly, nothing}
+use Rattle.c_state.specs.Reads.{lends, may_read, takes}
 use Rattle.c_state.specs.Stores.{give, may_store_to, may_write_to}
 use Rattle.c_state.specs.Fields.{object_variable}
 use Rattle.c_state.specs.Views.{view_in}
@@ -61,33 +65,35 @@ element_given t (entry.Num z) = in_range t z
 element_given t e = pos 0
 
 -- with no entry left the run stops
-abbrev pub stopped : CState → CState
-stopped c = tell event.Stop (with_course course.Stopped c)
+abbrev pub stopping : Change
+stopping = record nothing { event = Some event.Stop; course = Some course.Stopped }
 
-abbrev pub got : CState → Frame → Variable → Element → List Entry → Moved
-got c f x e [] = Went (stopped c)
-got c f x e (s ∷ ss) =
-    give (tell (event.Get e.view e.at e.kind (element_given e.kind s)) (with_script ss c)) f.file x (value.Number (element_given e.kind s))
+abbrev pub reading : Element → ℤ → List Obj → Change
+reading e z os = record nothing { takes = true; event = Some (event.Get e.view e.at e.kind z); lends = os }
+
+abbrev pub got : CState → Frame → Variable → Element → List Obj → List Entry → Planned
+got c f x e os [] = Does stopping
+got c f x e os (s ∷ ss) = give c f x (value.Number (element_given e.kind s)) (reading e (element_given e.kind s) os)
 
 -- `x = *(T *)(v.buf + y);`
-abbrev pub load_element : CState → Frame → Variable → CType → Variable → Reading → Variable → Reading → Moved
-load_element c f x t a v b y =
+abbrev pub load_element : List Entry → CState → Frame → Variable → CType → Variable → Reading → Variable → Reading → Planned
+load_element script c f x t a v b y =
     need (is_view v.kind && (is_number y.kind && (is_number (kind_of t) && (takes c f x (kind_of t) && may_store_to c f x)))) fault.Stuck
     (need_some (element_of c v y t) fault.OutOfView (λ e.
     (need_strictly c (may_read c (object_variable a) v && (may_read c (object_variable b) y && may_write_to c f x)) fault.Unlocked
     (need_strictly c (may_access c e) fault.Unheld
-    (got (lend (lends (object_variable a) v) c) f x e c.thread.script)))))
+    (got c f x e (lends (object_variable a) v) (drop c.thread.taken script))))))
 
 abbrev pub put_number : CNum → Value → ℤ
 put_number t (value.Number z) = wrap t z
 put_number t v = pos 0
 
 -- `*(T *)(v.buf + y) = k;`
-abbrev pub store_element : CState → Frame → CType → Variable → Reading → Variable → Reading → CValue → Reading → Moved
+abbrev pub store_element : CState → Frame → CType → Variable → Reading → Variable → Reading → CValue → Reading → Planned
 store_element c f t a v b y k w =
     need (is_view v.kind && (is_number y.kind && (is_number (kind_of t) && is_number w.kind))) fault.Stuck
     (need_some (element_of c v y t) fault.OutOfView (λ e.
     (need (is_set w.value) fault.Undefined
     (need_strictly c (may_read c (object_variable a) v && (may_read c (object_variable b) y && may_read c k w)) fault.Unlocked
     (need_strictly c (may_access c e) fault.Unheld
-    (Went (tell (event.Put e.view e.at e.kind (put_number e.kind w.value)) (lend (lends (object_variable a) v) c))))))))
+    (Does (record nothing { event = Some (event.Put e.view e.at e.kind (put_number e.kind w.value)); lends = lends (object_variable a) v })))))))

@@ -1,7 +1,7 @@
 -- What calling entries enter: a name of the outside is resolved through the written module definition, method tables and type
 -- objects (Python/C API manual, "Module Objects", "Type Objects"). An entry fits where the module's or the class's own text
 -- gives what it names, its functions may be entered, and `self` is an instance of the class. The project's own.
-use Rattle.std.specs.Prelude.{ℕ, Bool, false, List, [], ◌∷◌, ◌++◌, Option, Some, None, pos, nat_eq, length, map, codes, if◌then◌else◌}
+use Rattle.std.specs.Prelude.{ℕ, Bool, false, List, [], ◌∷◌, ◌++◌, Option, Some, None, pos, nat_eq, length, map, codes, if◌then◌else◌, true}
 use Rattle.std.specs.Str.{bytes_eq}
 use Rattle.api_model.specs.declared.object.Allocation.{Allocation}
 use Rattle.api_model.specs.declared.object.Callee.{Callee}
@@ -23,7 +23,6 @@ use Rattle.c_tree.specs.declared.name.TableName.TheVariants as table
 use Rattle.c_tree.specs.declared.item.MethodRow.{MethodRow}
 use Rattle.c_tree.specs.declared.item.PropertyRow.{PropertyRow}
 use Rattle.c_tree.specs.declared.item.TypeObject.{TypeObject}
-use Rattle.c_tree.specs.declared.item.CFunction.{CFunction}
 use Rattle.c_tree.specs.declared.item.CItem.{CItem}
 use Rattle.c_tree.specs.declared.item.CFile.{CFile}
 use Rattle.c_state.specs.declared.value.TypePlace.{TypePlace}
@@ -32,15 +31,16 @@ use Rattle.c_state.specs.declared.value.Value.TheVariants as value
 use Rattle.c_state.specs.declared.space.Spot.{Spot}
 use Rattle.c_state.specs.declared.space.Instance.{Instance}
 use Rattle.c_state.specs.declared.frame.Entered.TheVariants as entered
-use Rattle.c_state.specs.Linked.{Found, FoundFunction, NotFound, function_named, items_at, module_file, methods_in, method_row, properties_in, property_row, sequence_in, mapping_in, class_in, is_below, item_count}
-use Rattle.c_state.specs.State.{CState, spot, spots_at, instance_of, tell}
-use Rattle.c_state.specs.Calls.{entering}
+use Rattle.c_state.specs.Linked.{function_named, items_at, module_file, methods_in, method_row, properties_in, property_row, sequence_in, mapping_in, class_in, is_below, item_count}
+use Rattle.c_state.specs.declared.change.Change.{Change}
+use Rattle.c_state.specs.declared.change.FunctionPlace.{FunctionPlace}
+use Rattle.c_state.specs.Planned.{nothing}
+use Rattle.c_state.specs.State.{CState, spot, spots_at, instance_of}
 use Rattle.c_state.specs.Answered.{read_in}
 
--- a call from outside: the function and its file, the values of its parameters, what is lent to it, and its trace line
+-- a call from outside: the function, the values of its parameters, what is lent to it, and its trace line
 pub record OutsideCall : Type 0 where
-  pub file : ℕ
-  pub function : CFunction
+  pub function : FunctionPlace
   pub values : List Value
   pub lent : List Obj
   pub line : Event
@@ -51,13 +51,13 @@ pub record Wanted : Type 0 where
   pub values : List Value
   pub lent : List Obj
 
-abbrev pub found_call : ℕ → Wanted → Event → Found → Option OutsideCall
-found_call k w line NotFound = None
-found_call k w line (FoundFunction j fn) = Some (record { file = j; function = fn; values = w.values; lent = w.lent; line = line })
+abbrev pub found_call : Wanted → Event → Option FunctionPlace → Option OutsideCall
+found_call w line None = None
+found_call w line (Some p) = Some (record { function = p; values = w.values; lent = w.lent; line = line })
 
 abbrev pub call_in : List CFile → ℕ → Event → Option Wanted → Option OutsideCall
 call_in files k line None = None
-call_in files k line (Some w) = found_call k w line (function_named files k w.name)
+call_in files k line (Some w) = found_call w line (function_named files k w.name)
 
 -- ---- modules
 
@@ -237,6 +237,10 @@ call_of files c (entry.Set p o v) =
 call_of files c (entry.Unset p o) = property_call files c p (read_in c o) (event.EnterUnset p (read_in c o)) unset_value
 call_of files c e = None
 
--- the state in which the call has begun
-abbrev pub entered_call : OutsideCall → CState → CState
-entered_call o c = tell o.line (entering o.file o.function o.values o.lent entered.FromOutside c)
+-- the call begins
+abbrev pub entering_call : OutsideCall → Change
+entering_call o = record nothing {
+  takes = true;
+  event = Some o.line;
+  enters = Some (record { function = o.function; values = o.values; lent = o.lent; by = entered.FromOutside });
+}

@@ -3,6 +3,7 @@ pub mod ApiNames
 pub mod Assignments
 pub mod Buffers
 pub mod Calls
+pub mod Changed
 pub mod Destruction
 pub mod Direct
 pub mod Elements
@@ -12,10 +13,10 @@ pub mod Honest
 pub mod Ledger
 pub mod Linked
 pub mod Machine
-pub mod Moved
 pub mod Names
 pub mod Outside
 pub mod Places
+pub mod Planned
 pub mod Reads
 pub mod Returns
 pub mod Rows

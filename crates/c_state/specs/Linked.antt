@@ -1,6 +1,6 @@
 -- The linked files: what each name of C means in a file. Of two definitions of one name that isn't `static`, or of one
 -- `static` name in one file, the first counts (ISO/IEC 9899:2011 6.2.2, 6.9).
-use Rattle.std.specs.Prelude.{ℕ, zero, suc, ◌+◌, Bool, true, false, List, [], ◌∷◌, ◌++◌, Option, Some, None, ◌||◌, if◌then◌else◌, length, nat_eq, slice_index_or}
+use Rattle.std.specs.Prelude.{ℕ, zero, suc, ◌+◌, Bool, true, false, List, [], ◌∷◌, ◌++◌, Option, Some, None, ◌||◌, if◌then◌else◌, length, drop, nat_eq, slice_index_or, slice_get}
 use Rattle.std.specs.List.{flat_map}
 use Rattle.std.specs.Str.{bytes_eq}
 use Rattle.c_tree.specs.declared.name.Numbered.{Numbered}
@@ -23,6 +23,7 @@ use Rattle.c_tree.specs.declared.item.CFunction.{CFunction}
 use Rattle.c_tree.specs.declared.item.CItem.{CItem}
 use Rattle.c_tree.specs.declared.item.CItem.TheVariants as item
 use Rattle.c_tree.specs.declared.item.CFile.{CFile}
+use Rattle.c_state.specs.declared.change.FunctionPlace.{FunctionPlace}
 use Rattle.c_state.specs.declared.value.TypePlace.{TypePlace}
 use Rattle.c_state.specs.Names.{same_number, same_type, same_function}
 
@@ -39,11 +40,6 @@ item_count [] = 0
 item_count (f ∷ fs) = length f.items + item_count fs
 
 -- ---- functions
-
--- where a function stands: the number of its file, and its definition
-pub data Found : Type 0 where
-  FoundFunction : ℕ → CFunction → Found
-  NotFound : Found
 
 abbrev pub name_of : CHead → FunctionName
 name_of (head.Plain n result parameters) = function.Plain n
@@ -67,37 +63,44 @@ is_shared (function.Overridable n) = true
 is_shared (function.Initializer n) = true
 is_shared _ = false
 
--- the first function of a file with a name, else another
-abbrev pub function_in : ℕ → FunctionName → List CItem → Found → Found
-function_in k name [] other = other
-function_in k name (item.Function f ∷ is) other =
-    if same_function (name_of f.head) name then FoundFunction k f else function_in k name is other
-function_in k name (i ∷ is) other = function_in k name is other
+abbrev pub place_of : ℕ → ℕ → FunctionPlace
+place_of k i = record { file = k; item = i }
 
--- the first of all files, in their order
-abbrev pub function_among : ℕ → FunctionName → List CFile → Found
-function_among k name [] = NotFound
-function_among k name (f ∷ fs) = function_in k name f.items (function_among (suc k) name fs)
+-- the first function of file k that passes a test, where the items are numbered from i on, else another
+abbrev pub function_in : (FunctionName → Bool) → ℕ → ℕ → List CItem → Option FunctionPlace → Option FunctionPlace
+function_in test k i [] other = other
+function_in test k i (item.Function f ∷ is) other =
+    if test (name_of f.head) then Some (place_of k i) else function_in test k (suc i) is other
+function_in test k i (x ∷ is) other = function_in test k (suc i) is other
+
+-- the first of all files, which are numbered from k on
+abbrev pub function_among : (FunctionName → Bool) → ℕ → List CFile → Option FunctionPlace
+function_among test k [] = None
+function_among test k (f ∷ fs) = function_in test k 0 f.items (function_among test (suc k) fs)
+
+abbrev pub has_name : FunctionName → FunctionName → Bool
+has_name wanted name = same_function name wanted
 
 -- the function that C in a file names
-abbrev pub function_named : List CFile → ℕ → FunctionName → Found
+abbrev pub function_named : List CFile → ℕ → FunctionName → Option FunctionPlace
 function_named files k name =
-    if is_shared name then function_among 0 name files else function_in k name (items_at files k) NotFound
+    if is_shared name then function_among (has_name name) 0 files else function_in (has_name name) k 0 (items_at files k) None
+
+abbrev pub as_function : Option CItem → Option CFunction
+as_function (Some (item.Function f)) = Some f
+as_function _ = None
+
+-- the function that stands at a place
+abbrev pub function_at : List CFile → FunctionPlace → Option CFunction
+function_at files p = as_function (slice_get (items_at files p.file) p.item)
 
 abbrev pub is_initializer : FunctionName → Bool
 is_initializer (function.Initializer n) = true
 is_initializer _ = false
 
--- a file's first initialisation function
-abbrev pub initializer_in : ℕ → List CItem → Found → Found
-initializer_in k [] other = other
-initializer_in k (item.Function f ∷ is) other =
-    if is_initializer (name_of f.head) then FoundFunction k f else initializer_in k is other
-initializer_in k (i ∷ is) other = initializer_in k is other
-
-abbrev pub initializer_among : ℕ → List CFile → Found
-initializer_among k [] = NotFound
-initializer_among k (f ∷ fs) = initializer_in k f.items (initializer_among (suc k) fs)
+-- the first initialisation function of the files from number k on, each having its first
+abbrev pub next_initializer : List CFile → ℕ → Option FunctionPlace
+next_initializer files k = function_among is_initializer k (drop k files)
 
 -- ---- types, structs and tables
 

@@ -1,6 +1,6 @@
 -- The moves of the outside: it starts initialisations, takes entries, enters functions, destroys instances and answers
 -- operations. The project's own.
-use Rattle.std.specs.Prelude.{ℕ, suc, List, [], ◌∷◌, Option, Some, None, drop, if◌then◌else◌}
+use Rattle.std.specs.Prelude.{ℕ, List, [], Option, Some, None, if◌then◌else◌}
 use Rattle.api_model.specs.declared.entry.Entry.{Entry}
 use Rattle.api_model.specs.declared.entry.Entry.TheVariants as entry
 use Rattle.api_model.specs.declared.event.Event.TheVariants as event
@@ -14,54 +14,64 @@ use Rattle.c_tree.specs.declared.item.CFile.{CFile}
 use Rattle.c_state.specs.declared.space.Course.TheVariants as course
 use Rattle.c_state.specs.declared.frame.Entered.TheVariants as entered
 use Rattle.c_state.specs.declared.frame.Making.{Making}
-use Rattle.c_state.specs.Linked.{Found, FoundFunction, NotFound, name_of, initializer_among}
-use Rattle.c_state.specs.State.{Frame, CState, with_shared, set_begun, with_script, with_course, tell}
-use Rattle.c_state.specs.Moved.{Moved, Went}
-use Rattle.c_state.specs.Elements.{stopped}
-use Rattle.c_state.specs.Calls.{entering}
+use Rattle.c_state.specs.Linked.{name_of, function_at, next_initializer}
+use Rattle.c_state.specs.declared.change.FunctionPlace.{FunctionPlace}
+use Rattle.c_state.specs.declared.change.Initialising.TheVariants as begins
+use Rattle.c_state.specs.State.{Frame, CState}
+use Rattle.c_state.specs.declared.change.Planned.{Planned}
+use Rattle.c_state.specs.declared.change.Planned.TheVariants.{Does}
+use Rattle.c_state.specs.declared.change.Change.{Change}
+use Rattle.c_state.specs.Planned.{nothing}
+use Rattle.c_state.specs.Elements.{stopping}
 use Rattle.c_state.specs.Answered.{answered}
-use Rattle.c_state.specs.Entering.{OutsideCall, call_of, entered_call}
-use Rattle.c_state.specs.Destruction.{die}
+use Rattle.c_state.specs.Entering.{OutsideCall, call_of, entering_call}
+use Rattle.c_state.specs.Destruction.{die, skipping}
 
 -- a calling entry inside an operation; one that doesn't fit is an answer that doesn't fit
-abbrev pub called : List CFile → CState → Frame → Op → ApiRow → Making → Option Variable → Entry → Option OutsideCall → Moved
-called files c f o r m x e (Some call) = Went (entered_call call c)
-called files c f o r m x e None = answered files c f o r m x e
+abbrev pub called : CState → Frame → Op → ApiRow → Making → Option Variable → Entry → Option OutsideCall → Planned
+called c f o r m x e (Some call) = Does (entering_call call)
+called c f o r m x e None = answered c f o r m x e
 
 -- the move inside an operation: with no entry left the run stops
-abbrev pub await : List CFile → CState → Frame → Op → ApiRow → Making → Option Variable → List Entry → Moved
-await files c f o r m x [] = Went (stopped c)
-await files c f o r m x (entry.Die k ∷ es) = Went (die files (with_script es c) k)
-await files c f o r m x (e ∷ es) = called files (with_script es c) f o r m x e (call_of files (with_script es c) e)
+abbrev pub await : List CFile → CState → Frame → Op → ApiRow → Making → Option Variable → Option Entry → Planned
+await files c f o r m x None = Does stopping
+await files c f o r m x (Some (entry.Die k)) = Does (die files c k)
+await files c f o r m x (Some e) = called c f o r m x e (call_of files c e)
+
+abbrev pub ending : Change
+ending = record nothing { event = Some event.End; course = Some course.Ended }
 
 -- an entry at top level: one that calls nothing, and a call that doesn't fit, is skipped
-abbrev pub top_called : CState → Option OutsideCall → CState
-top_called c (Some call) = entered_call call c
-top_called c None = c
+abbrev pub top_called : Option OutsideCall → Change
+top_called (Some call) = entering_call call
+top_called None = skipping
 
 -- the move at top level once all initialisations have begun: with no entry left the run ends
-abbrev pub top : List CFile → CState → List Entry → CState
-top files c [] = tell event.End (with_course course.Ended c)
-top files c (entry.Die k ∷ es) = die files (with_script es c) k
-top files c (e ∷ es) = top_called (with_script es c) (call_of files (with_script es c) e)
+abbrev pub top : List CFile → CState → Option Entry → Change
+top files c None = ending
+top files c (Some (entry.Die k)) = die files c k
+top files c (Some e) = top_called (call_of files c e)
 
--- the next initialisation: the first one of the next file that has one
-abbrev pub next_initialiser : List CFile → ℕ → Found
-next_initialiser files begun = initializer_among begun (drop begun files)
+abbrev pub name_in : Option CFunction → List ℕ
+name_in None = []
+name_in (Some fn) = module_of (name_of fn.head)
+  where
+    module_of : FunctionName → List ℕ
+    module_of (function.Initializer n) = n
+    module_of _ = []
 
-abbrev pub module_of : FunctionName → List ℕ
-module_of (function.Initializer n) = n
-module_of _ = []
+abbrev pub initialising : List CFile → FunctionPlace → Change
+initialising files p = record nothing {
+  event = Some (event.Init (name_in (function_at files p)));
+  initialising = begins.Begins p.file;
+  enters = Some (record { function = p; values = []; lent = []; by = entered.ForInitialisation });
+}
 
-abbrev pub initialising : ℕ → CFunction → CState → CState
-initialising k fn c =
-    tell (event.Init (module_of (name_of fn.head))) (entering k fn [] [] entered.ForInitialisation (with_shared c (set_begun c.shared (suc k))))
-
-abbrev pub begin : List CFile → CState → Found → CState
-begin files c (FoundFunction k fn) = initialising k fn c
-begin files c NotFound = top files c c.thread.script
+-- the next initialisation, of the next file that has one
+abbrev pub begin : List CFile → CState → Option Entry → Option FunctionPlace → Change
+begin files c e (Some p) = initialising files p
+begin files c e None = top files c e
 
 -- the outside's move where no function runs; after a failed initialisation the run ends
-abbrev pub idle : List CFile → CState → CState
-idle files c =
-    if c.shared.failed then tell event.End (with_course course.Ended c) else begin files c (next_initialiser files c.shared.begun)
+abbrev pub idle : List CFile → CState → Option Entry → Change
+idle files c e = if c.shared.failed then ending else begin files c e (next_initializer files c.shared.begun)

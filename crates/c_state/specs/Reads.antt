@@ -28,8 +28,7 @@ use Rattle.c_state.specs.declared.space.Spot.{Spot}
 use Rattle.c_state.specs.declared.frame.Cell.{Cell}
 use Rattle.c_state.specs.Linked.{items_at, module_name, type_at, type_named}
 use Rattle.c_state.specs.Values.{converts, objects_in}
-use Rattle.c_state.specs.Ledger.{loan_all}
-use Rattle.c_state.specs.State.{Frame, CState, is_module_variable, lookup, spot, spots_at, with_ledger}
+use Rattle.c_state.specs.State.{Frame, CState, is_module_variable, lookup, spot, spots_at}
 
 -- what follows a label among the lines
 abbrev pub after_label : List Line → ℕ → Option (List Line)
@@ -155,9 +154,6 @@ argument_lends k v = if argument_reads_global k v then objects_in v.value else [
 abbrev pub lends_each : List Argument → List Reading → List Obj
 lends_each (k ∷ ks) (v ∷ vs) = argument_lends k v ++ lends_each ks vs
 lends_each _ _ = []
-
-abbrev pub lend : List Obj → CState → CState
-lend os c = with_ledger (loan_all os c.thread.ledger) c
 
 -- whether what is read may be read as far as the lock goes
 abbrev pub may_read : CState → CValue → Reading → Bool

@@ -19,12 +19,18 @@ use Rattle.c_state.specs.declared.frame.Entered.TheVariants as entered
 use Rattle.c_state.specs.declared.frame.Doing.{Doing}
 use Rattle.c_state.specs.declared.frame.Doing.TheVariants as doing
 use Rattle.c_state.specs.Values.{converts, converted, is_set, object_of}
-use Rattle.c_state.specs.Ledger.{leave, owned, gain_all}
-use Rattle.c_state.specs.State.{Frame, CState, with_shared, set_failed, with_frames, with_ledger, with_error, in_frame, tell, instance_at}
-use Rattle.c_state.specs.Moved.{Moved, Went, Faulted, need, need_some, need_strictly}
-use Rattle.c_state.specs.Reads.{lends, lend, may_read}
-use Rattle.c_state.specs.Stores.{give_to, is_tuple}
-use Rattle.c_state.specs.Calls.{result_kind, set_doing}
+use Rattle.c_ledger.specs.Ledger.{Account}
+use Rattle.c_state.specs.Ledger.{owned, own_first}
+use Rattle.c_state.specs.State.{Frame, CState, instance_at}
+use Rattle.c_state.specs.declared.change.Planned.{Planned}
+use Rattle.c_state.specs.declared.change.Planned.TheVariants.{Fault, Does}
+use Rattle.c_state.specs.declared.change.Change.{Change}
+use Rattle.c_state.specs.Planned.{need, need_some, need_strictly, nothing}
+use Rattle.c_state.specs.declared.change.ErrorChange.TheVariants as error
+use Rattle.c_state.specs.declared.change.Initialising.TheVariants as initialising
+use Rattle.c_state.specs.Reads.{lends, may_read}
+use Rattle.c_state.specs.Stores.{give_to_by, is_tuple}
+use Rattle.c_state.specs.Calls.{result_kind}
 
 -- ---- failure
 
@@ -74,30 +80,31 @@ same_lock false b = not b
 
 -- ---- where the result goes
 
--- the state without its newest frame
-abbrev pub without_first : List Frame → List Frame
-without_first [] = []
-without_first (f ∷ fs) = fs
-
-abbrev pub left : CState → CState
-left c = with_ledger (leave c.thread.ledger) (with_frames (without_first c.thread.frames) c)
-
 abbrev pub refs : Option Obj → List Obj
 refs None = []
 refs (Some o) = o ∷ []
 
-abbrev pub to_waiting : CState → Frame → Value → Option Obj → Doing → Moved
-to_waiting c g v result (doing.Waits x) =
-    give_to (in_frame (set_doing doing.Runs) (with_ledger (gain_all (refs result) c.thread.ledger) c)) g.file x v
-to_waiting c g v result _ = Faulted fault.Stuck
+-- the frame is left; the loans that the result's reading made
+abbrev pub leaving : List Obj → Change
+leaving os = record nothing { leaves = true; lends = os }
 
-abbrev pub to_first : CState → List Frame → Value → Option Obj → Moved
-to_first c [] v result = Faulted fault.Stuck
-to_first c (g ∷ gs) v result = to_waiting c g v result g.doing
+-- what a waiting frame owns, by the accounts from its own on
+abbrev pub own_of_caller : List Account → List Obj
+own_of_caller [] = []
+own_of_caller (a ∷ rest) = own_first rest
 
--- to the frame that called
-abbrev pub to_caller : CState → Value → Option Obj → Moved
-to_caller c v result = to_first c c.thread.frames v result
+-- the frame that called runs again, with one reference more where the result is an object
+abbrev pub resuming : List Obj → Option Obj → Change
+resuming os result = record nothing { leaves = true; lends = os; gains = refs result; doing = Some doing.Runs }
+
+abbrev pub to_waiting : CState → Frame → Value → List Obj → Option Obj → Doing → Planned
+to_waiting c g v os result (doing.Waits x) =
+    give_to_by c g.file (own_of_caller c.thread.ledger.accounts) x v (resuming os result)
+to_waiting c g v os result _ = Fault fault.Stuck
+
+abbrev pub to_caller : CState → List Frame → Value → List Obj → Option Obj → Planned
+to_caller c (f ∷ g ∷ gs) v os result = to_waiting c g v os result g.doing
+to_caller c _ v os result = Fault fault.Stuck
 
 -- the trace line of a result that is no failure
 abbrev pub leave_event : Value → Event
@@ -110,51 +117,54 @@ or_foreign None = obj.Foreign 0
 or_foreign (Some o) = o
 
 -- to the outside: a failure hands the exception over
-abbrev pub to_outside : CState → Value → CState
-to_outside c v = if is_failure v then tell (event.LeaveRaise (or_foreign c.thread.error)) (with_error None c) else tell (leave_event v) c
+abbrev pub to_outside : CState → Value → List Obj → Change
+to_outside c v os =
+    if is_failure v
+    then record (leaving os) { event = Some (event.LeaveRaise (or_foreign c.thread.error)); error = error.Clears }
+    else record (leaving os) { event = Some (leave_event v) }
 
-abbrev pub fails_initialisation : Value → CState → CState
-fails_initialisation v c = if is_failure v then with_shared c (set_failed c.shared true) else c
+abbrev pub from_initialisation : Value → Change → Change
+from_initialisation v d = if is_failure v then record d { initialising = initialising.Fails } else d
 
-abbrev pub hand : CState → Entered → Value → Moved
-hand c entered.FromC v = to_caller c v (object_of v)
-hand c entered.FromOutside v = Went (to_outside c v)
-hand c entered.ForInitialisation v = Went (fails_initialisation v (to_outside c v))
-hand c (entered.ForDestruction k) v = Went c
+abbrev pub hand : CState → Entered → Value → List Obj → Planned
+hand c entered.FromC v os = to_caller c c.thread.frames v os (object_of v)
+hand c entered.FromOutside v os = Does (to_outside c v os)
+hand c entered.ForInitialisation v os = Does (from_initialisation v (to_outside c v os))
+hand c (entered.ForDestruction k) v os = Does (leaving os)
 
 -- ---- the statements
 
-abbrev pub return_of : CState → Frame → Kind → CValue → Reading → Value → Moved
+abbrev pub return_of : CState → Frame → Kind → CValue → Reading → Value → Planned
 return_of c f k a w v =
     need_strictly c (may_read c a w && same_lock c.shared.lock f.lock) fault.Unlocked
     (need (success_is_clean c f k v) fault.ErrorSet
     (need (failure_is_set c f k v) fault.ErrorLost
-    (need_strictly c (is_balanced c f (object_of v)) fault.Unbalanced
-    (hand (left (lend (lends a w) c)) f.entered v))))
+    (need_strictly c (is_balanced c f (object_of v)) fault.Unbalanced (hand c f.entered v (lends a w)))))
 
-abbrev pub return_kind : CState → Frame → CValue → Reading → Kind → Moved
+abbrev pub return_kind : CState → Frame → CValue → Reading → Kind → Planned
 return_kind c f a w k =
     need (converts w.kind k && not (is_tuple w.value)) fault.Stuck
     (need (is_set w.value) fault.Undefined (return_of c f k a w (converted k w.value)))
 
 -- `return k;`
-abbrev pub return_value : CState → Frame → CValue → Reading → Moved
+abbrev pub return_value : CState → Frame → CValue → Reading → Planned
 return_value c f a w = need_some (result_kind f.function.head) fault.Stuck (return_kind c f a w)
 
-abbrev pub nothing_to : CState → Entered → Moved
-nothing_to c entered.FromC = to_caller_nothing c c.thread.frames
-  where
-    by_doing : CState → Doing → Moved
-    by_doing c (doing.Waits None) = Went (in_frame (set_doing doing.Runs) c)
-    by_doing c _ = Faulted fault.Stuck
-    to_caller_nothing : CState → List Frame → Moved
-    to_caller_nothing c [] = Faulted fault.Stuck
-    to_caller_nothing c (g ∷ gs) = by_doing c g.doing
-nothing_to c _ = Went c
+abbrev pub resumes : Doing → Planned
+resumes (doing.Waits None) = Does (resuming [] None)
+resumes _ = Fault fault.Stuck
+
+abbrev pub nothing_to_caller : List Frame → Planned
+nothing_to_caller (f ∷ g ∷ gs) = resumes g.doing
+nothing_to_caller _ = Fault fault.Stuck
+
+abbrev pub hand_nothing : CState → Entered → Planned
+hand_nothing c entered.FromC = nothing_to_caller c.thread.frames
+hand_nothing c _ = Does (leaving [])
 
 -- `return;`
-abbrev pub return_nothing : CState → Frame → Moved
+abbrev pub return_nothing : CState → Frame → Planned
 return_nothing c f =
     need (is_none (result_kind f.function.head)) fault.Stuck
     (need_strictly c (same_lock c.shared.lock f.lock) fault.Unlocked
-    (need_strictly c (is_balanced c f None) fault.Unbalanced (nothing_to (left c) f.entered)))
+    (need_strictly c (is_balanced c f None) fault.Unbalanced (hand_nothing c f.entered)))

@@ -31,14 +31,17 @@ use Rattle.c_state.specs.declared.value.Reading.{Reading}
 use Rattle.c_state.specs.declared.frame.Making.{Making}
 use Rattle.c_state.specs.declared.frame.Making.TheVariants as making
 use Rattle.c_state.specs.declared.frame.Doing.TheVariants as doing
+use Rattle.c_state.specs.declared.change.ErrorChange.{ErrorChange}
+use Rattle.c_state.specs.declared.change.ErrorChange.TheVariants as error
 use Rattle.c_state.specs.Linked.{type_at}
 use Rattle.c_state.specs.Values.{int, size, is_null, all_set, passed, values_of, fits}
-use Rattle.c_state.specs.Ledger.{end_loans}
-use Rattle.c_state.specs.State.{Frame, CState, with_ledger, with_error, in_frame, tell, all_held}
-use Rattle.c_state.specs.Moved.{Moved, Went, need, need_some, need_strictly}
+use Rattle.c_state.specs.State.{Frame, CState, all_held}
+use Rattle.c_state.specs.declared.change.Planned.{Planned}
+use Rattle.c_state.specs.declared.change.Planned.TheVariants.{Does}
+use Rattle.c_state.specs.declared.change.Change.{Change}
+use Rattle.c_state.specs.Planned.{need, need_some, need_strictly, nothing}
 use Rattle.c_state.specs.Reads.{class_named, receives}
 use Rattle.c_state.specs.Stores.{is_tuple}
-use Rattle.c_state.specs.Calls.{set_doing}
 
 -- ---- operands
 
@@ -336,24 +339,28 @@ abbrev pub may_run : CState → Api → ApiRow → Bool
 may_run c a r = is_none c.thread.error || not (r.clean || sets_error a)
 
 -- `unraisable` clears the exception before its calling entries run
-abbrev pub cleared : Api → CState → CState
-cleared api.WriteUnraisable c = with_error None c
-cleared _ c = c
+abbrev pub error_by : Api → ErrorChange
+error_by api.WriteUnraisable = error.Clears
+error_by _ = error.Stays
 
-abbrev pub asking : Api → ApiRow → Option Variable → List Value → Op → CState → CState
-asking a r x vs o c =
-    tell (event.Ask o) (cleared a (with_ledger (end_loans c.thread.ledger) (in_frame (set_doing (doing.Asks o r (making_of a vs) x)) c)))
+abbrev pub asking : Api → ApiRow → Option Variable → List Value → Op → Change
+asking a r x vs o = record nothing {
+  event = Some (event.Ask o);
+  ends_loans = true;
+  error = error_by a;
+  doing = Some (doing.Asks o r (making_of a vs) x);
+}
 
 -- what an unset operand would be doesn't matter to the tests of what is Stuck
 abbrev pub is_asked : List CFile → Api → List Reading → Bool
 is_asked files a vs = not (all_set vs) || not (is_none (op_of files a (values_of vs)))
 
 -- `x = Py..(k, ..);` where the script is asked
-abbrev pub ask : List CFile → CState → Frame → Option Variable → Api → ApiRow → List Argument → List Reading → Moved
+abbrev pub ask : List CFile → CState → Frame → Option Variable → Api → ApiRow → List Argument → List Reading → Planned
 ask files c f x a r ks vs =
     need (fits (operands a vs) vs && (are_needed (operands a vs) vs && (is_asked files a vs && receives_row c f x (given_by r.gives a)))) fault.Stuck
     (need (all_set vs) fault.Undefined
     (need_strictly c c.shared.lock fault.Unlocked
     (need (may_run c a r) (clean_fault r)
     (need_strictly c (all_held c (passed vs)) fault.Unheld
-    (need_some (op_of files a (values_of vs)) fault.Stuck (λ o. Went (asking a r x (values_of vs) o c)))))))
+    (need_some (op_of files a (values_of vs)) fault.Stuck (λ o. Does (asking a r x (values_of vs) o)))))))

@@ -1,11 +1,9 @@
 -- The state of the machine: what several threads share, and what is one thread's own. The project's own.
-use Rattle.std.specs.Prelude.{ℕ, zero, suc, Bool, true, false, ◌&&◌, ◌||◌, List, [], ◌∷◌, ◌++◌, Option, Some, None, map, slice_get, slice_set, slice_index_or, if◌then◌else◌}
+use Rattle.std.specs.Prelude.{ℕ, zero, suc, Bool, true, false, ◌&&◌, ◌||◌, List, [], ◌∷◌, Option, Some, None, map, slice_get, slice_set, slice_index_or, if◌then◌else◌}
 use Rattle.std.specs.List.{list_any}
 use Rattle.api_model.specs.declared.object.Obj.{Obj}
 use Rattle.api_model.specs.declared.object.Obj.TheVariants as obj
 use Rattle.api_model.specs.declared.object.Allocation.{Allocation}
-use Rattle.api_model.specs.declared.entry.Entry.{Entry}
-use Rattle.api_model.specs.declared.event.Event.{Event}
 use Rattle.api_model.specs.declared.info.Info.{Info}
 use Rattle.api_model.specs.Objects.{is_permanent}
 use Rattle.c_tree.specs.declared.name.Numbered.{Numbered}
@@ -60,14 +58,13 @@ pub record Shared : Type 0 where
   pub lock : Bool
 
 -- What is one thread's own: the frames, the newest first; the ledger; the exception that is set; the states of the lock
--- that are remembered, the newest first; the entries that are left; the events so far; whether it is at its end.
+-- that are remembered, the newest first; how many entries of the script are taken; whether it is at its end.
 pub record Thread : Type 0 where
   pub frames : List Frame
   pub ledger : Ledger
   pub error : Option Obj
   pub remembered : List Bool
-  pub script : List Entry
-  pub events : List Event
+  pub taken : ℕ
   pub course : Course
 
 -- The state. Where it isn't strict, ownership and the lock are no faults, and no instance is destroyed.
@@ -96,11 +93,8 @@ set_error t error = record t { error = error }
 abbrev pub set_remembered : Thread → List Bool → Thread
 set_remembered t remembered = record t { remembered = remembered }
 
-abbrev pub set_script : Thread → List Entry → Thread
-set_script t script = record t { script = script }
-
-abbrev pub set_events : Thread → List Event → Thread
-set_events t events = record t { events = events }
+abbrev pub set_taken : Thread → ℕ → Thread
+set_taken t taken = record t { taken = taken }
 
 abbrev pub set_course : Thread → Course → Thread
 set_course t course = record t { course = course }
@@ -135,15 +129,11 @@ with_error error c = with_thread c (set_error c.thread error)
 abbrev pub with_remembered : List Bool → CState → CState
 with_remembered remembered c = with_thread c (set_remembered c.thread remembered)
 
-abbrev pub with_script : List Entry → CState → CState
-with_script script c = with_thread c (set_script c.thread script)
+abbrev pub with_taken : ℕ → CState → CState
+with_taken taken c = with_thread c (set_taken c.thread taken)
 
 abbrev pub with_course : Course → CState → CState
 with_course course c = with_thread c (set_course c.thread course)
-
--- one event more
-abbrev pub tell : Event → CState → CState
-tell e c = with_thread c (set_events c.thread (c.thread.events ++ e ∷ []))
 
 abbrev pub with_instances : List Instance → CState → CState
 with_instances instances c = with_shared c (set_instances c.shared instances)
@@ -321,17 +311,16 @@ first_shared files = record {
   lock = true;
 }
 
-abbrev pub first_thread : List Entry → Thread
-first_thread script = record {
+abbrev pub first_thread : Thread
+first_thread = record {
   frames = [];
   ledger = empty_ledger;
   error = None;
   remembered = [];
-  script = script;
-  events = [];
+  taken = 0;
   course = course.Goes;
 }
 
 -- before the first initialisation
-abbrev pub linked : Bool → List CFile → List Entry → CState
-linked strict files script = record { shared = first_shared files; thread = first_thread script; strict = strict }
+abbrev pub linked : Bool → List CFile → CState
+linked strict files = record { shared = first_shared files; thread = first_thread; strict = strict }

@@ -1,9 +1,8 @@
 -- Where values go: variables, places and fields. A store into a field, a module variable or a constant place moves a
 -- reference in, and the reference that was there out (Python/C API manual, "Reference Counts").
+use Rattle.api_model.specs.declared.object.Obj.{Obj}
 use Rattle.std.specs.Prelude.{ℕ, Bool, true, false, not, ◌&&◌, ◌||◌, List, ◌++◌, Option, Some, None, slice_get}
-use Rattle.api_model.specs.declared.object.Obj.TheVariants as obj
 use Rattle.c_tree.specs.declared.name.Numbered.{Numbered}
-use Rattle.c_tree.specs.declared.name.Place.{Place}
 use Rattle.c_tree.specs.declared.name.Variable.{Variable}
 use Rattle.c_tree.specs.declared.name.Variable.TheVariants as variable
 use Rattle.c_tree.specs.declared.value.CType.{CType}
@@ -17,22 +16,21 @@ use Rattle.c_state.specs.declared.space.Spot.{Spot}
 use Rattle.c_state.specs.declared.space.Instance.{Instance}
 use Rattle.c_state.specs.Linked.{struct_of}
 use Rattle.c_state.specs.Values.{kind_of, objects_in}
-use Rattle.c_state.specs.Ledger.{has_all, lose_all, owned, owning}
-use Rattle.c_state.specs.State.{Frame, CState, is_constant, is_module_variable, spot, spots_at, set_spot, set_variable, with_ledger, instance_of, part_of, set_instance, stored_in}
-use Rattle.c_state.specs.Moved.{Moved, Went, need, need_some, need_strictly}
+use Rattle.c_state.specs.Ledger.{has_all, owned}
+use Rattle.c_state.specs.State.{Frame, CState, is_constant, is_module_variable, spot, spots_at, instance_of, part_of}
+use Rattle.c_state.specs.declared.change.Planned.{Planned}
+use Rattle.c_state.specs.declared.change.Planned.TheVariants.{Does}
+use Rattle.c_state.specs.declared.change.Change.{Change}
+use Rattle.c_state.specs.Planned.{need, need_some, need_strictly}
 
 -- the arguments of an `__init__` are no object: only variables and functions take them
 abbrev pub is_tuple : Value → Bool
 is_tuple (value.Tuple os) = true
 is_tuple _ = false
 
--- whether the newest frame owns the references that a value moves
-abbrev pub owns_moved : CState → Value → Bool
-owns_moved c v = has_all (owned c.thread.ledger) (objects_in v)
-
--- the ledger where the references of one value were moved away, and those of another came
-abbrev pub moved : Value → Value → CState → CState
-moved v old c = with_ledger (owning (lose_all (owned c.thread.ledger) (objects_in v) ++ objects_in old) c.thread.ledger) c
+-- whether these references, and no others that are needed, are owned
+abbrev pub owns_moved : List Obj → Value → Bool
+owns_moved own v = has_all own (objects_in v)
 
 -- a constant place is stored into once
 abbrev pub may_store : Spot → Bool
@@ -41,21 +39,32 @@ may_store s = not (is_constant s.place) || not s.stored
 abbrev pub may_write : CState → Spot → Bool
 may_write c s = not (is_module_variable s.place s.kind) || c.shared.lock
 
-abbrev pub give_place : CState → ℕ → Place → Value → Spot → Moved
-give_place c k p v s =
+-- a value moves into a place: its references are given away, and those of the old value come back
+abbrev pub moving : Variable → Value → Value → Change → Change
+moving x v old d = record d { gives = Some (x, v); loses = objects_in v; gets_back = objects_in old }
+
+abbrev pub give_place : CState → List Obj → Variable → Value → Change → Spot → Planned
+give_place c own x v d s =
     need (may_store s && not (is_tuple v)) fault.Stuck
     (need_strictly c (may_write c s) fault.Unlocked
-    (need_strictly c (owns_moved c v) fault.Unheld
-    (Went (set_spot k p v (moved v s.value c)))))
+    (need_strictly c (owns_moved (own ++ d.gains) v) fault.Unheld
+    (Does (moving x v s.value d))))
 
--- a value goes to a variable of the newest frame, or to a place of file k
-abbrev pub give : CState → ℕ → Variable → Value → Moved
-give c k (variable.Place p) v = need_some (spot (spots_at c k) p) fault.Stuck (give_place c k p v)
-give c k x v = Went (set_variable x v c)
+-- A value goes to a variable of a frame that owns these references, or to a place of its file k, beside other changes.
+abbrev pub give_by : CState → ℕ → List Obj → Variable → Value → Change → Planned
+give_by c k own (variable.Place p) v d = need_some (spot (spots_at c k) p) fault.Stuck (give_place c own (variable.Place p) v d)
+give_by c k own x v d = Does (record d { gives = Some (x, v) })
 
-abbrev pub give_to : CState → ℕ → Option Variable → Value → Moved
-give_to c k None v = Went c
-give_to c k (Some x) v = give c k x v
+abbrev pub give_to_by : CState → ℕ → List Obj → Option Variable → Value → Change → Planned
+give_to_by c k own None v d = Does d
+give_to_by c k own (Some x) v d = give_by c k own x v d
+
+-- the same of the newest frame
+abbrev pub give : CState → Frame → Variable → Value → Change → Planned
+give c f x v d = give_by c f.file (owned c.thread.ledger) x v d
+
+abbrev pub give_to : CState → Frame → Option Variable → Value → Change → Planned
+give_to c f x v d = give_to_by c f.file (owned c.thread.ledger) x v d
 
 -- whether a variable or place may be stored into, and whether the lock allows it
 abbrev pub spot_may_store : Option Spot → Bool
@@ -107,11 +116,3 @@ field_of (Some i) class j = field_in (part_of i.parts class) j
 -- what a field of an instance holds, where a value is an instance with that struct
 abbrev pub field_value : CState → Value → Numbered → ℕ → Option Value
 field_value c y class j = field_of (instance_of c y) class j
-
-abbrev pub set_in : Option Instance → ℕ → Numbered → ℕ → Value → CState → CState
-set_in None k class j v c = c
-set_in (Some i) k class j v c = set_instance k (stored_in i class j v) c
-
-abbrev pub set_field : Value → Numbered → ℕ → Value → CState → CState
-set_field (value.Object (obj.Inst k)) class j v c = set_in (instance_of c (value.Object (obj.Inst k))) k class j v c
-set_field y class j v c = c

@@ -1,6 +1,6 @@
 -- The parts of a `cyc_view`, in a variable or in a field. `mv` in a field or a module variable is a reference that it holds.
 -- The project's own.
-use Rattle.std.specs.Prelude.{ℕ, zero, suc, Bool, true, false, not, ◌&&◌, ◌||◌, List, [], Option, Some, None, ℤ, pos, ◌+ℤ◌, is_none, if◌then◌else◌}
+use Rattle.std.specs.Prelude.{ℕ, zero, suc, Bool, true, false, not, ◌&&◌, ◌||◌, List, [], Option, Some, None, ℤ, pos, ◌+ℤ◌, is_none, if◌then◌else◌, ◌++◌}
 use Rattle.cy_num.specs.declared.types.CNum.TheVariants as number
 use Rattle.cy_num.specs.Wrapping.{wrap}
 use Rattle.api_model.specs.declared.object.Obj.{Obj}
@@ -25,10 +25,15 @@ use Rattle.c_state.specs.declared.value.Value.{Value}
 use Rattle.c_state.specs.declared.value.Value.TheVariants as value
 use Rattle.c_state.specs.declared.value.Reading.{Reading}
 use Rattle.c_state.specs.Values.{size, is_number, is_object, is_view, is_set, unset_view, objects_in, memory_value, as_memory, extents_at, with_extent, extents_of, with_extents}
-use Rattle.c_state.specs.State.{Frame, CState, set_variable, set_spot}
-use Rattle.c_state.specs.Moved.{Moved, Went, Faulted, need, need_some, need_strictly}
-use Rattle.c_state.specs.Reads.{variable_reading, lends, lend, may_read}
-use Rattle.c_state.specs.Stores.{give, is_tuple, may_write_to, owns_moved, moved, field_kind, field_value, set_field}
+use Rattle.c_state.specs.Ledger.{owned}
+use Rattle.c_state.specs.State.{Frame, CState}
+use Rattle.c_state.specs.declared.change.Planned.{Planned}
+use Rattle.c_state.specs.declared.change.Planned.TheVariants.{Fault, Does}
+use Rattle.c_state.specs.declared.change.Change.{Change}
+use Rattle.c_state.specs.Planned.{need, need_some, need_strictly, lending}
+use Rattle.c_state.specs.declared.change.SpaceChange.TheVariants as space
+use Rattle.c_state.specs.Reads.{variable_reading, lends, may_read}
+use Rattle.c_state.specs.Stores.{give, is_tuple, may_write_to, owns_moved, field_kind, field_value}
 use Rattle.c_state.specs.Fields.{object_variable, uses, is_plain}
 use Rattle.c_state.specs.Buffers.{goes_to, told_by}
 
@@ -109,12 +114,14 @@ abbrev pub lends_at : CState → Frame → ViewPlace → List Obj
 lends_at c f (where_it_is.Variable x) = []
 lends_at c f (where_it_is.Field p) = lends_read p.object (variable_reading c f p.object)
 
--- the state with another view there
-abbrev pub set_view : Frame → ViewPlace → ViewValue → CState → CState
-set_view f (where_it_is.Variable (variable.Place p)) v c = set_spot f.file p (value.View v) c
-set_view f (where_it_is.Variable x) v c = set_variable x (value.View v) c
-set_view f (where_it_is.Field p) v c =
-    set_field (value_read (variable_reading c f p.object)) p.class p.field (value.View v) c
+-- a view goes there, beside other changes
+abbrev pub view_field : Value → FieldPlace → ViewValue → Change → Planned
+view_field (value.Object (obj.Inst k)) p v d = Does (record d { space = space.Field k p.class p.field (value.View v) })
+view_field y p v d = Fault fault.BadField
+
+abbrev pub set_view : CState → Frame → ViewPlace → ViewValue → Change → Planned
+set_view c f (where_it_is.Variable x) v d = Does (record d { gives = Some (x, value.View v) })
+set_view c f (where_it_is.Field p) v d = view_field (value_read (variable_reading c f p.object)) p v d
 
 -- ---- `buf`
 
@@ -130,37 +137,37 @@ buffer_of (value.Object (obj.View k)) = Some (buffer.At k (pos 0))
 buffer_of _ = None
 
 -- `v.buf = (char *)PyMemoryView_GET_BUFFER(y)->buf;`
-abbrev pub take_buffer : List CFile → CState → Frame → ViewPlace → Variable → Reading → Moved
+abbrev pub take_buffer : List CFile → CState → Frame → ViewPlace → Variable → Reading → Planned
 take_buffer files c f p object y =
     need (is_plain y && (is_view_place files c f p && (not (is_set y.value) || not (is_none (buffer_of y.value))))) fault.Stuck
     (need (is_there c f p) fault.BadField
     (told_by c y true (buffer_of y.value) (λ b.
     (need_strictly c (is_held c f p) fault.Unheld
-    (Went (set_view f p (with_buffer b (view_at c f p)) (lend (lends_at c f p) (lend (lends (object_variable object) y) c))))))))
+    (set_view c f p (with_buffer b (view_at c f p)) (lending (lends (object_variable object) y ++ lends_at c f p)))))))
 
 -- `v.buf = w.buf;`
-abbrev pub copy_buffer : List CFile → CState → Frame → ViewPlace → ViewPlace → Moved
+abbrev pub copy_buffer : List CFile → CState → Frame → ViewPlace → ViewPlace → Planned
 copy_buffer files c f p q =
     need (is_view_place files c f p && is_view_place files c f q) fault.Stuck
     (need (is_there c f p && is_there c f q) fault.BadField
     (need (is_buffer_set (view_at c f q).buffer) fault.Undefined
     (need_strictly c (is_open c f p && is_open c f q) fault.Unlocked
     (need_strictly c (is_held c f p && is_held c f q) fault.Unheld
-    (Went (set_view f p (with_buffer (view_at c f q).buffer (view_at c f p)) (lend (lends_at c f p) (lend (lends_at c f q) c))))))))
+    (set_view c f p (with_buffer (view_at c f q).buffer (view_at c f p)) (lending (lends_at c f q ++ lends_at c f p)))))))
 
 abbrev pub moved_by : Buffer → Value → Option Buffer
 moved_by (buffer.At k at) (value.Number z) = Some (buffer.At k (at +ℤ z))
 moved_by _ _ = None
 
 -- `v.buf = v.buf + k;`, which is undefined at NULL (ISO/IEC 9899:2011 6.5.6)
-abbrev pub move_buffer : List CFile → CState → Frame → ViewPlace → CValue → Reading → Moved
+abbrev pub move_buffer : List CFile → CState → Frame → ViewPlace → CValue → Reading → Planned
 move_buffer files c f p k v =
     need (is_view_place files c f p && is_number v.kind) fault.Stuck
     (need (is_there c f p) fault.BadField
     (need_some (moved_by (view_at c f p).buffer v.value) fault.Undefined (λ b.
     (need_strictly c (is_open c f p && may_read c k v) fault.Unlocked
     (need_strictly c (is_held c f p) fault.Unheld
-    (Went (set_view f p (with_buffer b (view_at c f p)) (lend (lends_at c f p) c))))))))
+    (set_view c f p (with_buffer b (view_at c f p)) (lending (lends_at c f p))))))))
 
 -- ---- `mv`
 
@@ -172,18 +179,20 @@ is_memory_set memory.Unset = false
 is_memory_set _ = true
 
 abbrev pub owns_stored : CState → ViewPlace → Value → Bool
-owns_stored c p v = not (is_shared p) || owns_moved c v
+owns_stored c p v = not (is_shared p) || owns_moved (owned c.thread.ledger) v
 
-abbrev pub moved_at : CState → Frame → ViewPlace → Value → CState → CState
-moved_at before f p v c = if is_shared p then moved v (memory_value (view_at before f p).memory) c else c
+-- where it is a reference that is held, one moves in and one comes back
+abbrev pub memory_moved : CState → Frame → ViewPlace → Value → Change → Change
+memory_moved c f p v d =
+    if is_shared p then record d { loses = objects_in v; gets_back = objects_in (memory_value (view_at c f p).memory) } else d
 
-abbrev pub store_memory_of : CState → Frame → ViewPlace → CValue → Reading → Option Memory → Moved
-store_memory_of c f p k v None = Faulted fault.Stuck
+abbrev pub store_memory_of : CState → Frame → ViewPlace → CValue → Reading → Option Memory → Planned
+store_memory_of c f p k v None = Fault fault.Stuck
 store_memory_of c f p k v (Some m) =
-    Went (set_view f p (with_memory m (view_at c f p)) (moved_at c f p v.value (lend (lends_at c f p) (lend (lends k v) c))))
+    set_view c f p (with_memory m (view_at c f p)) (memory_moved c f p v.value (lending (lends k v ++ lends_at c f p)))
 
 -- `v.mv = k;`
-abbrev pub store_memory : List CFile → CState → Frame → ViewPlace → CValue → Reading → Moved
+abbrev pub store_memory : List CFile → CState → Frame → ViewPlace → CValue → Reading → Planned
 store_memory files c f p k v =
     need (is_view_place files c f p && (is_object v.kind && not (is_tuple v.value))) fault.Stuck
     (need (is_there c f p) fault.BadField
@@ -197,14 +206,14 @@ abbrev pub memory_lends : CState → Frame → ViewPlace → List Obj
 memory_lends c f p = if is_shared p then objects_in (memory_value (view_at c f p).memory) else []
 
 -- `x = v.mv;`
-abbrev pub load_memory : List CFile → CState → Frame → Variable → ViewPlace → Moved
+abbrev pub load_memory : List CFile → CState → Frame → Variable → ViewPlace → Planned
 load_memory files c f x p =
     need (is_view_place files c f p && goes_to c f x kind.Object) fault.Stuck
     (need (is_there c f p) fault.BadField
     (need (is_memory_set (view_at c f p).memory) fault.Undefined
     (need_strictly c (is_open c f p && may_write_to c f x) fault.Unlocked
     (need_strictly c (is_held c f p) fault.Unheld
-    (give (lend (memory_lends c f p) (lend (lends_at c f p) c)) f.file x (memory_value (view_at c f p).memory))))))
+    (give c f x (memory_value (view_at c f p).memory) (lending (lends_at c f p ++ memory_lends c f p)))))))
 
 -- ---- `n[J]` and `s[J]`
 
@@ -222,25 +231,25 @@ abbrev pub with_number_at : Extent → ℕ → ℤ → ViewValue → ViewValue
 with_number_at e j z v = with_extents v e (with_extent (extents_of v e) j z)
 
 -- `v.n[J] = k;`
-abbrev pub store_extent : List CFile → CState → Frame → ViewPlace → Extent → ℕ → CValue → Reading → Moved
+abbrev pub store_extent : List CFile → CState → Frame → ViewPlace → Extent → ℕ → CValue → Reading → Planned
 store_extent files c f p e j k v =
     need (is_view_place files c f p && (is_extent j && is_number v.kind)) fault.Stuck
     (need (is_there c f p) fault.BadField
     (need_some (stored_number v.value) fault.Undefined (λ z.
     (need_strictly c (is_open c f p && may_read c k v) fault.Unlocked
     (need_strictly c (is_held c f p) fault.Unheld
-    (Went (set_view f p (with_number_at e j z (view_at c f p)) (lend (lends_at c f p) c))))))))
+    (set_view c f p (with_number_at e j z (view_at c f p)) (lending (lends_at c f p))))))))
 
 abbrev pub number_at : Option (Option ℤ) → Option ℤ
 number_at None = None
 number_at (Some z) = z
 
 -- `x = v.n[J];`
-abbrev pub load_extent : List CFile → CState → Frame → Variable → ViewPlace → Extent → ℕ → Moved
+abbrev pub load_extent : List CFile → CState → Frame → Variable → ViewPlace → Extent → ℕ → Planned
 load_extent files c f x p e j =
     need (is_view_place files c f p && (is_extent j && goes_to c f x size)) fault.Stuck
     (need (is_there c f p) fault.BadField
     (need_some (number_at (extents_at (extents_of (view_at c f p) e) j)) fault.Undefined (λ z.
     (need_strictly c (is_open c f p && may_write_to c f x) fault.Unlocked
     (need_strictly c (is_held c f p) fault.Unheld
-    (give (lend (lends_at c f p) c) f.file x (value.Number z)))))))
+    (give c f x (value.Number z) (lending (lends_at c f p))))))))

@@ -3,6 +3,7 @@
 #![tactic(auto)]
 
 mod api;
+mod change;
 mod frame;
 mod kind;
 mod space;
@@ -10,6 +11,9 @@ mod step;
 mod value;
 
 pub use api::Api;
+pub use change::{
+    Change, Entering, ErrorChange, FunctionPlace, Initialising, Planned, Remembering, SpaceChange,
+};
 pub use frame::{Cell, Doing, Entered, Making};
 pub use kind::Kind;
 pub use space::{Course, Instance, Part, Spot};
