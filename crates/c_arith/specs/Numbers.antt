@@ -1,5 +1,5 @@
 -- Numbers of C with their types (ISO/IEC 9899:2011 6.2.5, 6.4.4.1).
-use Rattle.std.specs.Prelude.{ℤ, pos, Option, Some, None}
+use Rattle.std.specs.Prelude.{⊤, ℤ, pos, Option, Some, None}
 use Rattle.c_arith.specs.declared.number.Computed.{Computed}
 use Rattle.c_arith.specs.declared.number.Computed.TheVariants.{Value, Undefined}
 use Rattle.c_arith.specs.declared.number.Number.{Number}

@@ -32,11 +32,8 @@ pub fn number_type(kind: CType) -> Option<CNum>
         CType::UnsignedInt => Some(CNum::U32),
         CType::Long | CType::PySsizeT => Some(CNum::I64),
         CType::UnsignedLong => Some(CNum::U64),
-        CType::Object
-        | CType::View
-        | CType::ThreadState
-        | CType::LockState
-        | CType::TypeObject => None,
+        CType::Object | CType::View | CType::ThreadState | CType::LockState | CType::TypeObject =>
+            None,
     }
 }
 
@@ -46,14 +43,14 @@ pub fn number_of(literal: Literal) -> Number
     ensures number { IsNumber result }
 {
     match literal {
-        Literal::Int(value) => number(CNum::I32, value as i128),
-        Literal::Unsigned(value) => number(CNum::U32, value as i128),
-        Literal::Long(value) => number(CNum::I64, value as i128),
-        Literal::UnsignedLong(value) => number(CNum::U64, value as i128),
+        Literal::Int(value) => make_number(CNum::I32, value as i128),
+        Literal::Unsigned(value) => make_number(CNum::U32, value as i128),
+        Literal::Long(value) => make_number(CNum::I64, value as i128),
+        Literal::UnsignedLong(value) => make_number(CNum::U64, value as i128),
     }
 }
 
-fn number(kind: CNum, value: i128) -> Number
+fn make_number(kind: CNum, value: i128) -> Number
     ensures { result ≡ record { kind = kind; value = value } }
 {
     Number { kind, value }

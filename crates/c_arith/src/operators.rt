@@ -2,12 +2,12 @@
 ghost use Rattle.std.specs.Prelude.{◌≡◌};
 ghost use Rattle.c_arith.specs.Numbers.{IfNumber, IsNumber};
 ghost use Rattle.c_arith.specs.Operators.{computed, converted, inverse, inverted};
-ghost use Rattle.cy_num.specs.Types.{IsValue};
+ghost use Rattle.cy_num.specs.Types.{IsValue, promote};
 
 use crate::number::{Computed, Number};
 use crate::results::{
-    bits_in_both, bits_in_either, bits_in_one, difference, product, quotient, remainder,
-    shifted_left, shifted_right, sum, truth,
+    bits_in_both, bits_in_either, bits_in_one, difference, equal, is_signed, product, quotient,
+    remainder, shifted_left, shifted_right, sum, truth,
 };
 use c_tree::BinaryOp;
 use cy_num::{CNum, common, greatest, promote, wrap};
@@ -19,6 +19,7 @@ pub fn compute(operator: BinaryOp, left: Number, right: Number) -> Computed
     ensures same { result ≡ computed operator left right }
     ensures number { IfNumber result }
 {
+    let shifted = promoted(left);
     let kind = common(left.kind, right.kind);
     let a = wrap(kind, left.value);
     let b = wrap(kind, right.value);
@@ -31,12 +32,12 @@ pub fn compute(operator: BinaryOp, left: Number, right: Number) -> Computed
         BinaryOp::BitAnd => bits_in_both(kind, a, b),
         BinaryOp::BitOr => bits_in_either(kind, a, b),
         BinaryOp::BitXor => bits_in_one(kind, a, b),
-        BinaryOp::ShiftLeft => shifted_left(promote(left.kind), left.value, right.value),
-        BinaryOp::ShiftRight => shifted_right(promote(left.kind), left.value, right.value),
+        BinaryOp::ShiftLeft => shifted_left(shifted.kind, shifted.value, right.value),
+        BinaryOp::ShiftRight => shifted_right(shifted.kind, shifted.value, right.value),
         BinaryOp::Less => truth(a < b),
         BinaryOp::LessEqual => truth(a <= b),
-        BinaryOp::Equal => truth(a == b),
-        BinaryOp::NotEqual => truth(a != b),
+        BinaryOp::Equal => truth(equal(a, b)),
+        BinaryOp::NotEqual => truth(!equal(a, b)),
         BinaryOp::Greater => truth(a > b),
         BinaryOp::GreaterEqual => truth(a >= b),
     }
@@ -48,10 +49,21 @@ pub fn invert(number: Number) -> Number
     ensures same { result ≡ inverted number }
     ensures number { IsNumber result }
 {
-    let kind = promote(number.kind);
+    let Number { kind, value } = promoted(number);
     Number {
         kind,
-        value: inverse(kind, number.value),
+        value: inverse(kind, value),
+    }
+}
+
+fn promoted(number: Number) -> Number
+    requires { IsNumber number }
+    ensures same { result ≡ record { kind = promote number.kind; value = number.value } }
+    ensures number { IsNumber result }
+{
+    Number {
+        kind: promote(number.kind),
+        value: number.value,
     }
 }
 
@@ -60,9 +72,10 @@ fn inverse(kind: CNum, value: i128) -> i128
     ensures same { result ≡ inverse kind value }
     ensures value { IsValue kind result }
 {
-    match kind {
-        CNum::I8 | CNum::I16 | CNum::I32 | CNum::I64 => -1 - value,
-        CNum::U8 | CNum::U16 | CNum::U32 | CNum::U64 => greatest(kind) - value,
+    if is_signed(kind) {
+        -1 - value
+    } else {
+        greatest(kind) - value
     }
 }
 
