@@ -1,7 +1,6 @@
 -- Casts (Cython documentation, "Language Basics", type casting; "Extension Types").
-use Rattle.std.specs.Prelude.{ℕ, Bool, true, false, if◌then◌else◌, List, [], ◌∷◌, ◌++◌, Option, Some, None, codes}
+use Rattle.std.specs.Prelude.{ℕ, Bool, true, false, if◌then◌else◌, List, [], ◌∷◌, Option, Some, None, codes}
 use Rattle.std.specs.Str.{bytes_eq}
-use Rattle.cy_base.specs.declared.place.Refusal.{Refusal}
 use Rattle.cy_num.specs.declared.types.CNum.TheVariants as number
 use Rattle.cy_tree.specs.declared.set.NameKind.{NameKind}
 use Rattle.cy_tree.specs.declared.set.NameKind.TheVariants as kind
@@ -15,7 +14,7 @@ use Rattle.cy_tree.specs.declared.types.TypeName.TheVariants as type
 use Rattle.cy_tree.specs.declared.types.TypeNode.{TypeNode}
 use Rattle.cy_around.specs.Surroundings.{Surroundings}
 use Rattle.expr_types.specs.declared.said.Said.TheVariants.{Nothing, Value}
-use Rattle.expr_types.specs.Said.{Judged, Piece, alone, breaks, judged_as, meeting, of_pieces, plain}
+use Rattle.expr_types.specs.Said.{Judged, alone, breaks, judged_as, meeting, of_pieces, plain}
 
 -- the table of number words
 abbrev pub words_meant : NumberWords → Ty

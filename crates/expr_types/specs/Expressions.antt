@@ -1,11 +1,9 @@
 -- What each form of an expression is, which rules are broken in it, and what is written at the nodes inside it: a level a line.
-use Rattle.std.specs.Prelude.{ℕ, Bool, true, false, List, [], ◌∷◌, ◌++◌, map, Option, Some, None}
-use Rattle.cy_base.specs.declared.place.Refusal.{Refusal}
+use Rattle.std.specs.Prelude.{ℕ, Bool, true, false, List, [], ◌∷◌, map, Option, Some, None}
 use Rattle.cy_tree.specs.declared.expr.Expr.{Expr, Expr-F, fold-Expr}
 use Rattle.cy_tree.specs.declared.expr.Expr.TheOpen.{Index-F, Part-F}
 use Rattle.cy_tree.specs.declared.expr.Index.{Index, fold-Index}
 use Rattle.cy_tree.specs.declared.expr.Part.{Part, fold-Part}
-use Rattle.cy_tree.specs.declared.set.NodeInfo.{NodeInfo}
 use Rattle.cy_tree.specs.declared.ty.Ty.{Ty}
 use Rattle.cy_tree.specs.declared.ty.Ty.TheVariants as ty
 use Rattle.cy_tree.specs.declared.types.Ident.{Ident}
@@ -13,7 +11,6 @@ use Rattle.cy_around.specs.Surroundings.{Surroundings}
 use Rattle.expr_types.specs.declared.said.Arithmetic.TheVariants.{Usual, Shifts}
 use Rattle.expr_types.specs.declared.said.Said.{Said}
 use Rattle.expr_types.specs.declared.said.Said.TheVariants.{Nothing, Value, Literal}
-use Rattle.expr_types.specs.declared.said.Told.{Told}
 use Rattle.expr_types.specs.Casts.{cast_type, casting}
 use Rattle.expr_types.specs.Operators.{comparing, operand, operating, term_kind, unary_of}
 use Rattle.expr_types.specs.Joined.{choosing, conditional}

@@ -1,9 +1,8 @@
 -- Operands of `and` and `or`, and the arms of a conditional expression: one type (Python language reference, 6.11, 6.13; that all
 -- are of one type is the project's own).
-use Rattle.std.specs.Prelude.{ℕ, ◌-◌, Bool, true, false, not, ◌&&◌, if◌then◌else◌, List, [], ◌∷◌, ◌++◌, map, length, take, Option, Some, None}
+use Rattle.std.specs.Prelude.{ℕ, ◌-◌, Bool, true, false, not, if◌then◌else◌, List, [], ◌∷◌, ◌++◌, map, length, take, Option, Some, None}
 use Rattle.std.specs.List.{flat_map, list_any, list_all}
 use Rattle.cy_base.specs.declared.place.Refusal.{Refusal}
-use Rattle.cy_num.specs.declared.types.CNum.{CNum}
 use Rattle.cy_num.specs.declared.types.CNum.TheVariants as number
 use Rattle.cy_tree.specs.declared.set.NodeInfo.{NodeInfo}
 use Rattle.cy_tree.specs.declared.ty.Ty.{Ty}

@@ -1,7 +1,6 @@
 -- Operators (Python language reference, 6.5 to 6.12; Cython documentation, "Language Basics", arithmetic): which operands they take,
 -- what they give, and where the rules on them are broken.
-use Rattle.std.specs.Prelude.{ℕ, nat_eq, Bool, true, false, not, ◌&&◌, ◌||◌, if◌then◌else◌, List, [], ◌∷◌, ◌++◌, map, Option, Some, None}
-use Rattle.std.specs.List.{flat_map}
+use Rattle.std.specs.Prelude.{ℕ, nat_eq, Bool, true, false, ◌&&◌, ◌||◌, if◌then◌else◌, List, [], ◌∷◌, ◌++◌, Option, Some, None}
 use Rattle.cy_base.specs.declared.place.Refusal.{Refusal}
 use Rattle.cy_num.specs.declared.types.CNum.{CNum}
 use Rattle.cy_num.specs.declared.types.CNum.TheVariants as number
@@ -14,17 +13,14 @@ use Rattle.cy_tree.specs.declared.expr.UnaryOp.{UnaryOp}
 use Rattle.cy_tree.specs.declared.expr.UnaryOp.TheVariants as unary
 use Rattle.cy_tree.specs.declared.set.NodeInfo.{NodeInfo}
 use Rattle.cy_tree.specs.declared.ty.Coercion.{Coercion}
-use Rattle.cy_tree.specs.declared.ty.Ty.{Ty}
 use Rattle.cy_tree.specs.declared.ty.Ty.TheVariants as ty
-use Rattle.cy_tree.specs.Coercions.{type_eq}
 use Rattle.cy_around.specs.Surroundings.{Surroundings}
 use Rattle.first_breach.specs.First.{broken_if}
 use Rattle.expr_types.specs.declared.said.Arithmetic.{Arithmetic}
 use Rattle.expr_types.specs.declared.said.Arithmetic.TheVariants.{Usual, Shifts, Divides}
 use Rattle.expr_types.specs.declared.said.Said.{Said}
-use Rattle.expr_types.specs.declared.said.Said.TheVariants.{Nothing, Value, Literal, Function, ModuleName, Shape}
-use Rattle.expr_types.specs.declared.said.Told.{Told}
-use Rattle.expr_types.specs.Said.{Judged, Piece, breaks, fits, how_met, if_fine, is_nothing, is_object, is_too_large, judged_as, literal_type, node_of, number_of, plain, too_large, uncoerced}
+use Rattle.expr_types.specs.declared.said.Said.TheVariants.{Nothing, Value, Literal}
+use Rattle.expr_types.specs.Said.{Judged, breaks, how_met, is_nothing, is_object, is_too_large, judged_as, node_of, number_of, plain}
 
 -- ---- an operand beside another
 

@@ -1,9 +1,8 @@
 -- What stands behind an atom: attributes, calls and indexes (Python language reference, 6.3; Cython documentation, "Extension Types",
 -- "Typed Memoryviews", "Language Basics").
-use Rattle.std.specs.Prelude.{ℕ, suc, nat_eq, nat_lt, Bool, true, false, not, ◌&&◌, ◌||◌, if◌then◌else◌, List, [], ◌∷◌, ◌++◌, map, length, Option, Some, None, codes}
+use Rattle.std.specs.Prelude.{ℕ, suc, nat_eq, nat_lt, Bool, true, false, if◌then◌else◌, List, [], ◌∷◌, ◌++◌, map, length, Option, Some, None, codes}
 use Rattle.std.specs.Str.{bytes_eq}
 use Rattle.cy_base.specs.declared.place.Refusal.{Refusal}
-use Rattle.cy_num.specs.declared.types.CNum.{CNum}
 use Rattle.cy_num.specs.declared.types.CNum.TheVariants as number
 use Rattle.cy_tree.specs.declared.decl.CKind.{CKind}
 use Rattle.cy_tree.specs.declared.decl.CKind.TheVariants.{Cdef, Cpdef}
@@ -24,7 +23,7 @@ use Rattle.first_breach.specs.First.{broken_if}
 use Rattle.expr_types.specs.declared.said.Said.{Said}
 use Rattle.expr_types.specs.declared.said.Said.TheVariants.{Nothing, Value, Literal, Function, ModuleName, Shape}
 use Rattle.expr_types.specs.declared.said.Told.{Told}
-use Rattle.expr_types.specs.Said.{Judged, Piece, all_fine, alone, blank, breaks, broken_in, if_fine, is_nothing, judged_as, meeting, misused, node_of, nodes_in, piece, settled, told_as, wanting, written}
+use Rattle.expr_types.specs.Said.{Judged, Piece, all_fine, alone, blank, breaks, broken_in, if_fine, is_nothing, judged_as, meeting, misused, nodes_in, piece, settled, told_as, wanting, written}
 
 -- ---- what is known of a name
 

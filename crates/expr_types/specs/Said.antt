@@ -1,12 +1,11 @@
 -- What an expression is, and the rules on an expression in its place, by their numbers: each lists where it is broken. The project's
 -- own, after the Cython documentation ("Language Basics", "Automatic type conversions").
-use Rattle.std.specs.Prelude.{ℕ, nat_lt, Bool, true, false, not, ◌&&◌, ◌||◌, if◌then◌else◌, List, [], ◌∷◌, ◌++◌, Option, Some, None}
+use Rattle.std.specs.Prelude.{ℕ, nat_lt, Bool, true, false, not, ◌&&◌, if◌then◌else◌, List, [], ◌∷◌, ◌++◌, Option, Some, None}
 use Rattle.std.specs.List.{flat_map}
 use Rattle.cy_base.specs.declared.place.Phase.TheVariants.{Static}
 use Rattle.cy_base.specs.declared.place.Refusal.{Refusal}
 use Rattle.cy_num.specs.declared.types.CNum.{CNum}
 use Rattle.cy_num.specs.declared.types.CNum.TheVariants as number
-use Rattle.cy_tree.specs.declared.set.NameKind.{NameKind}
 use Rattle.cy_tree.specs.declared.set.NodeInfo.{NodeInfo}
 use Rattle.cy_tree.specs.declared.ty.Coercion.{Coercion}
 use Rattle.cy_tree.specs.declared.ty.Ty.{Ty}

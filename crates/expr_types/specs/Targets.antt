@@ -1,5 +1,5 @@
 -- An expression as a target (Python language reference, 7.2; Cython documentation, "Typed Memoryviews").
-use Rattle.std.specs.Prelude.{ℕ, nat_eq, Bool, true, false, if◌then◌else◌, List, [], ◌∷◌, ◌++◌, Option, Some, None, length}
+use Rattle.std.specs.Prelude.{ℕ, Bool, true, false, if◌then◌else◌, List, [], ◌∷◌, ◌++◌}
 use Rattle.std.specs.List.{list_any}
 use Rattle.cy_base.specs.declared.place.Refusal.{Refusal}
 use Rattle.cy_tree.specs.declared.expr.Expr.{Expr, Expr-F, out-Expr}
@@ -11,10 +11,10 @@ use Rattle.cy_tree.specs.declared.ty.ViewTy.{ViewTy}
 use Rattle.cy_around.specs.Surroundings.{Surroundings}
 use Rattle.first_breach.specs.First.{broken_if}
 use Rattle.expr_types.specs.declared.said.Said.{Said}
-use Rattle.expr_types.specs.declared.said.Said.TheVariants.{Nothing, Value, Literal, Function, ModuleName, Shape}
+use Rattle.expr_types.specs.declared.said.Said.TheVariants.{Value, ModuleName, Shape}
 use Rattle.expr_types.specs.declared.said.Told.{Told}
 use Rattle.expr_types.specs.Expressions.{as_value}
-use Rattle.expr_types.specs.Said.{Judged, breaks}
+use Rattle.expr_types.specs.Said.{breaks}
 
 abbrev pub is_slice : Index-F Expr Index Part → Bool
 is_slice (Index-F.One x) = false

@@ -1,5 +1,5 @@
 //! Operands of `and` and `or`, and arms: values of one type.
-ghost use Rattle.std.specs.Prelude.{◌≡◌, ◌++◌, OnOk, length, take, ◌-◌};
+ghost use Rattle.std.specs.Prelude.{◌≡◌, ◌++◌, OnOk, if◌then◌else◌, length, take, ◌-◌};
 ghost use Rattle.std.specs.List.{flat_map, list_all, list_any};
 ghost use Rattle.cy_tree.specs.Bases.{class_eq};
 ghost use Rattle.cy_tree.specs.Coercions.{number_eq, type_eq, view_eq};
@@ -94,14 +94,22 @@ fn all_have_type(kind: Ty, tolds: &[Told]) -> bool
     tolds.iter().all(|told| has_type(kind, told.said))
 }
 
+fn literals_type(tolds: &[Told]) -> CNum
+    ensures { result ≡ if list_any (λ u. is_long_literal u.said) tolds.now then CNum.I64 else CNum.I32 }
+{
+    if any_long_literal(tolds) {
+        CNum::I64
+    } else {
+        CNum::I32
+    }
+}
+
 fn one_of(kind: Option<Ty>, tolds: &[Told]) -> Said
     ensures { result ≡ one_of kind tolds.now }
 {
     match kind {
-        None if any_long_literal(tolds) => Said::Value(Ty::Num(CNum::I64)),
-        None => Said::Value(Ty::Num(CNum::I32)),
-        Some(kind) if all_have_type(kind, tolds) => Said::Value(kind),
-        Some(_) => Said::Nothing,
+        None => Said::Value(Ty::Num(literals_type(tolds))),
+        Some(kind) => if_fine(all_have_type(kind, tolds), Said::Value(kind)),
     }
 }
 
