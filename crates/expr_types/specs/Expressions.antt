@@ -15,7 +15,7 @@ use Rattle.expr_types.specs.Casts.{cast_type, casting}
 use Rattle.expr_types.specs.Operators.{comparing, operand, operating, term_kind, unary_of}
 use Rattle.expr_types.specs.Joined.{choosing, conditional}
 use Rattle.expr_types.specs.Parts.{Indexed, PartSaid, attribute, call, item, named, one_index, postfix_of, slice}
-use Rattle.expr_types.specs.Said.{Judged, Piece, asking, judged_as, meeting, of_pieces, plain, used}
+use Rattle.expr_types.specs.Said.{Judged, Piece, asking, judged_as, meeting, of_pieces, plain, used, all_meeting}
 
 -- an expression, by whether it is a condition: the test of `if`, `while` and of a conditional expression, the operand of `not`, and
 -- the operands of `and` and `or` in a condition
@@ -37,7 +37,7 @@ object_item S file j = meeting S file ty.Object (value_of file j)
 
 -- the items of a display are objects
 abbrev pub display : Surroundings → ℕ → ℕ → List Judging → Judged
-display S file at js = of_pieces at (Value ty.Object) (map (object_item S file) js)
+display S file at js = of_pieces at (Value ty.Object) (all_meeting S file ty.Object (values_of file js))
 
 abbrev pub pair_pieces : Surroundings → ℕ → List (Judging × Judging) → List Piece
 pair_pieces S file [] = []

@@ -5,3 +5,4 @@ pub mod Operators
 pub mod Parts
 pub mod Said
 pub mod Targets
+pub mod Walk

@@ -20,10 +20,11 @@ use Rattle.cy_around.specs.declared.member.MemberSaid.{MemberSaid}
 use Rattle.cy_around.specs.declared.member.MemberSaid.TheVariants.{Field, Method}
 use Rattle.cy_around.specs.Surroundings.{Surroundings}
 use Rattle.first_breach.specs.First.{broken_if}
+use Rattle.expr_types.specs.declared.said.Prefix.{Prefix}
 use Rattle.expr_types.specs.declared.said.Said.{Said}
 use Rattle.expr_types.specs.declared.said.Said.TheVariants.{Nothing, Value, Literal, Function, ModuleName, Shape}
 use Rattle.expr_types.specs.declared.said.Told.{Told}
-use Rattle.expr_types.specs.Said.{Judged, Piece, all_fine, alone, blank, breaks, broken_in, if_fine, is_nothing, judged_as, meeting, misused, nodes_in, piece, settled, told_as, wanting, written}
+use Rattle.expr_types.specs.Said.{Judged, Piece, all_alone, all_fine, all_meeting, blank, breaks, broken_in, if_fine, is_nothing, judged_as, meeting, misused, nodes_in, piece, settled, told_as, wanting, written}
 
 -- ---- what is known of a name
 
@@ -102,16 +103,10 @@ attribute S file i before at whole = stage (attribute_of S i.text before) (attri
 
 -- ---- calls
 
-abbrev pub all_meeting : Surroundings → ℕ → Ty → List Judged → List Piece
-all_meeting S file t us = map (meeting S file t) us
-
-abbrev pub all_alone : List Judged → List Piece
-all_alone us = map alone us
-
 -- each argument meets its parameter
 abbrev pub each_meeting : Surroundings → ℕ → List Ty → List Judged → List Piece
 each_meeting S file (t ∷ ts) (u ∷ us) = meeting S file t u ∷ each_meeting S file ts us
-each_meeting S file _ us = all_alone us
+each_meeting S file _ _ = []
 
 abbrev pub call_stage : Said → List Refusal → List Piece → Stage
 call_stage said breaches ps = stage (if_fine (all_fine ps) said) (breaches ++ broken_in ps) (blank ∷ nodes_in ps)
@@ -249,13 +244,6 @@ pub record PartSaid : Type 0 where
 abbrev pub first_is_call : List PartSaid → Bool
 first_is_call [] = false
 first_is_call (p ∷ ps) = p.is_call
-
--- what stands before the parts that are left, its first byte, and what stood before the last part so far
-pub record Prefix : Type 0 where
-  pub said : Said
-  pub at : ℕ
-  pub owner : Said
-  pub owner_at : ℕ
 
 abbrev pub prefix_of : Told → Prefix
 prefix_of told = record { said = told.said; at = told.at; owner = Nothing; owner_at = told.at }

@@ -1,6 +1,6 @@
 -- What an expression is, and the rules on an expression in its place, by their numbers: each lists where it is broken. The project's
 -- own, after the Cython documentation ("Language Basics", "Automatic type conversions").
-use Rattle.std.specs.Prelude.{ℕ, nat_lt, Bool, true, false, not, ◌&&◌, if◌then◌else◌, List, [], ◌∷◌, ◌++◌, Option, Some, None}
+use Rattle.std.specs.Prelude.{ℕ, nat_lt, Bool, true, false, not, ◌&&◌, if◌then◌else◌, List, [], ◌∷◌, ◌++◌, Option, Some, None, map}
 use Rattle.std.specs.List.{flat_map}
 use Rattle.cy_base.specs.declared.place.Phase.TheVariants.{Static}
 use Rattle.cy_base.specs.declared.place.Refusal.{Refusal}
@@ -176,6 +176,12 @@ asking S file u =
 -- nothing is wanted of it
 abbrev pub alone : Judged → Piece
 alone u = piece (not (is_nothing u.told.said)) u.breaches (node_of u None)
+
+abbrev pub all_meeting : Surroundings → ℕ → Ty → List Judged → List Piece
+all_meeting S file t us = map (meeting S file t) us
+
+abbrev pub all_alone : List Judged → List Piece
+all_alone us = map alone us
 
 abbrev pub wanting : Surroundings → ℕ → Option Ty → Judged → Piece
 wanting S file None u = alone u

@@ -5,7 +5,9 @@ mod cast;
 mod joined;
 mod named;
 mod operators;
+mod parts;
 mod place;
 mod said;
+mod walk;
 
-pub use said::{Arithmetic, Said, Told};
+pub use said::{Arithmetic, Prefix, Said, Told};

@@ -37,3 +37,13 @@ pub enum Arithmetic {
     /// none: `/` is for objects
     Divides,
 }
+
+/// What stands before the parts that are left, its first byte, and what stood before the last part so far. The
+/// project's own.
+#[derive(Clone, Copy)]
+pub struct Prefix {
+    pub said: Said,
+    pub at: u32,
+    pub owner: Said,
+    pub owner_at: u32,
+}
