@@ -2,45 +2,19 @@
 use Rattle.std.specs.Prelude.{ℕ, suc, Bool, true, false, if◌then◌else◌, nat_eq, nat_lt, List, [], ◌∷◌, Option, Some, None, length, codes}
 use Rattle.std.specs.Str.{bytes_eq}
 use Rattle.cy_num.specs.declared.types.CNum.{CNum}
-use Rattle.cy_num.specs.declared.types.CNum.TheVariants as number
 use Rattle.cy_tree.specs.declared.set.NameKind.{NameKind}
 use Rattle.cy_tree.specs.declared.set.NameKind.TheVariants as kind
 use Rattle.cy_tree.specs.declared.set.NamedSet.{NamedSet}
 use Rattle.cy_tree.specs.declared.ty.Ty.{Ty}
 use Rattle.cy_tree.specs.declared.ty.Ty.TheVariants as ty
 use Rattle.cy_tree.specs.declared.types.Dim.{Dim}
-use Rattle.cy_tree.specs.declared.types.NumberWords.{NumberWords}
-use Rattle.cy_tree.specs.declared.types.NumberWords.TheVariants as words
 use Rattle.cy_tree.specs.declared.types.TypeName.{TypeName}
 use Rattle.cy_tree.specs.declared.types.TypeName.TheVariants as type
 use Rattle.cy_tree.specs.declared.types.TypeNode.{TypeNode}
 use Rattle.cy_scope.specs.declared.known.Known.{Known}
 use Rattle.cy_scope.specs.Declarations.{kind_through}
 use Rattle.cy_scope.specs.Scopes.{resolved_among, scopes_shown}
-
--- the table of number words
-abbrev pub words_meant : NumberWords → Ty
-words_meant words.SignedChar = ty.Num number.I8
-words_meant words.UnsignedChar = ty.Num number.U8
-words_meant words.Short = ty.Num number.I16
-words_meant words.ShortInt = ty.Num number.I16
-words_meant words.UnsignedShort = ty.Num number.U16
-words_meant words.UnsignedShortInt = ty.Num number.U16
-words_meant words.Int = ty.Num number.I32
-words_meant words.Unsigned = ty.Num number.U32
-words_meant words.UnsignedInt = ty.Num number.U32
-words_meant words.Long = ty.Num number.I64
-words_meant words.LongInt = ty.Num number.I64
-words_meant words.LongLong = ty.Num number.I64
-words_meant words.LongLongInt = ty.Num number.I64
-words_meant words.UnsignedLong = ty.Num number.U64
-words_meant words.UnsignedLongInt = ty.Num number.U64
-words_meant words.UnsignedLongLong = ty.Num number.U64
-words_meant words.UnsignedLongLongInt = ty.Num number.U64
-words_meant words.PySsizeT = ty.Num number.I64
-words_meant words.SizeT = ty.Num number.U64
-words_meant words.Bint = ty.Bint
-words_meant words.Void = ty.Void
+use Rattle.type_uses.specs.Words.{words_meant, element, contiguity}
 
 -- ---- names
 
@@ -59,29 +33,6 @@ name_meant known set scope (type.Named i) = if bytes_eq i.text (codes "object") 
 name_meant known set scope (type.Member outer i) = class_type (kind_through known (Some (meaning_in set scope outer.text)) i.text)
 
 -- ---- views
-
-abbrev pub as_number : Ty → Option CNum
-as_number (ty.Num t) = Some t
-as_number _ = None
-
--- the element of a view: a C number type
-abbrev pub element : TypeName → Option CNum
-element (type.Number w) = as_number (words_meant w)
-element _ = None
-
-abbrev pub last_is_contiguous : Option ℕ → Option Bool
-last_is_contiguous None = Some false
-last_is_contiguous (Some n) = if nat_eq n 1 then Some true else None
-
-abbrev pub without_number : Option ℕ → Option Bool → Option Bool
-without_number None more = more
-without_number (Some n) more = None
-
--- whether the dimensions end with `::1`; None where a `::` isn't last or has another number
-abbrev pub contiguity : List Dim → Option Bool
-contiguity [] = Some false
-contiguity (d ∷ []) = last_is_contiguous d.step
-contiguity (d ∷ e ∷ ds) = without_number d.step (contiguity (e ∷ ds))
 
 -- a view has 1 to 3 dimensions
 abbrev pub view_of : TypeNode → Option CNum → Option Bool → Option Ty

@@ -1,6 +1,8 @@
-//! Where types stand in a file, and the names that are declared with them.
+//! Types as they are written: where they stand in a file, the names that are declared with them, and what their words mean.
 #![tactic(auto)]
 
 mod walk;
+mod words;
 
 pub use walk::{TypeUse, note_uses};
+pub use words::{contiguity, element, words_meant};
