@@ -1,6 +1,5 @@
 -- What is known around the expressions of a module and of a function, by the declarations of a set. The project's own.
 use Rattle.std.specs.Prelude.{ℕ, suc, ◌+◌, List, [], ◌∷◌, ◌++◌, map, length, Option, Some, None, slice_get}
-use Rattle.std.specs.List.{flat_map}
 use Rattle.cy_tree.specs.declared.set.NameKind.{NameKind}
 use Rattle.cy_tree.specs.declared.set.NamedSet.{NamedSet}
 use Rattle.cy_tree.specs.declared.ty.Ty.{Ty}

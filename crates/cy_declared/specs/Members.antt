@@ -15,9 +15,6 @@ use Rattle.cy_tree.specs.declared.decl.Top.{Top}
 use Rattle.cy_tree.specs.declared.decl.Top.TheVariants as top
 use Rattle.cy_tree.specs.declared.set.NamedSet.{NamedSet}
 use Rattle.cy_tree.specs.declared.ty.ClassId.{ClassId}
-use Rattle.cy_tree.specs.declared.ty.FnId.{FnId}
-use Rattle.cy_tree.specs.declared.types.Ident.{Ident}
-use Rattle.cy_tree.specs.declared.types.TypeNode.{TypeNode}
 use Rattle.cy_tree.specs.Bases.{bases}
 use Rattle.cy_tree.specs.Functions.{functions_of}
 use Rattle.cy_around.specs.declared.member.MemberSaid.{MemberSaid}

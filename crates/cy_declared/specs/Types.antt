@@ -1,5 +1,5 @@
 -- The types that the words of a declaration mean (Cython documentation, "Language Basics", C types; "Typed Memoryviews").
-use Rattle.std.specs.Prelude.{ℕ, suc, Bool, true, false, if◌then◌else◌, nat_eq, nat_lt, List, [], ◌∷◌, Option, Some, None, length, codes}
+use Rattle.std.specs.Prelude.{ℕ, Bool, if◌then◌else◌, nat_lt, List, [], ◌∷◌, Option, Some, None, length, codes}
 use Rattle.std.specs.Str.{bytes_eq}
 use Rattle.cy_num.specs.declared.types.CNum.{CNum}
 use Rattle.cy_tree.specs.declared.set.NameKind.{NameKind}
