@@ -1,6 +1,6 @@
 -- The functions of modules, with the classes whose methods they are, and the signatures of C functions (Cython documentation,
 -- "Language Basics", "Python functions vs. C functions"; "Extension Types"; "Error return values").
-use Rattle.std.specs.Prelude.{ℕ, suc, ◌^◌, Bool, true, false, if◌then◌else◌, nat_lt, ℤ, pos, neg_ℤ, List, [], ◌∷◌, ◌++◌, map, Option, Some, None, is_some, slice_get}
+use Rattle.std.specs.Prelude.{ℕ, suc, ◌-◌, ◌^◌, Bool, true, false, if◌then◌else◌, nat_lt, ℤ, pos, neg_ℤ, List, [], ◌∷◌, ◌++◌, map, Option, Some, None, is_some, slice_get}
 use Rattle.std.specs.List.{flat_map}
 use Rattle.cy_tree.specs.declared.decl.ClauseNode.{ClauseNode}
 use Rattle.cy_tree.specs.declared.decl.ClauseNode.TheVariants as written
@@ -15,7 +15,7 @@ use Rattle.cy_tree.specs.declared.ty.Clause.TheVariants as clause
 use Rattle.cy_tree.specs.declared.ty.FnId.{FnId}
 use Rattle.cy_tree.specs.declared.ty.Signature.{Signature}
 use Rattle.cy_tree.specs.declared.ty.Ty.{Ty}
-use Rattle.cy_tree.specs.Functions.{Function, PythonFunction, CythonFunction, methods_of, functions_of}
+use Rattle.cy_tree.specs.Functions.{Function, PythonFunction, CythonFunction, functions_of}
 use Rattle.cy_around.specs.declared.callable.Callable.{Callable}
 use Rattle.cy_scope.specs.declared.known.Known.{Known}
 use Rattle.cy_scope.specs.Files.{Module, modules, tops}
@@ -29,14 +29,19 @@ pub record Owned : Type 0 where
 abbrev pub owned_by : Option ClassId → Function → Owned
 owned_by owner f = record { owner = owner; function = f }
 
-abbrev pub class_id : ℕ → ℕ → ClassId
-class_id m c = record { «module» = m; index = c }
+-- the class of an item of module m, before which c classes came
+abbrev pub owner_of : ℕ → ℕ → Top → Option ClassId
+owner_of m c (top.Class x) = Some (record { «module» = m; index = c })
+owner_of m c _ = None
+
+abbrev pub classes_behind : ℕ → Top → ℕ
+classes_behind c (top.Class x) = suc c
+classes_behind c _ = c
 
 -- the functions of module m in text order, by which they are numbered; c classes came before
 abbrev pub owned_from : ℕ → ℕ → List Top → List Owned
 owned_from m c [] = []
-owned_from m c (top.Class x ∷ ts) = map (owned_by (Some (class_id m c))) (flat_map methods_of x.members) ++ owned_from m (suc c) ts
-owned_from m c (t ∷ ts) = map (owned_by None) (functions_of t) ++ owned_from m c ts
+owned_from m c (t ∷ ts) = map (owned_by (owner_of m c t)) (functions_of t) ++ owned_from m (classes_behind c t) ts
 
 abbrev pub owned_functions : NamedSet → Module → List Owned
 owned_functions set m = owned_from m.number 0 (tops set.set m.files)
@@ -46,15 +51,22 @@ owned_functions set m = owned_from m.number 0 (tops set.set m.files)
 abbrev pub signed : Bool → ℕ → ℤ
 signed negative n = if negative then neg_ℤ (pos n) else pos n
 
+-- Of what doesn't fit into 128 bits with a sign the greatest or least number is kept: no type has either.
+abbrev pub value_meant : Bool → ℕ → ℤ
+value_meant negative n = if nat_lt n (2 ^ 127) then signed negative n else if negative then neg_ℤ (pos (2 ^ 127)) else pos (2 ^ 127 - 1)
+
 abbrev pub value_clause : Bool → ℤ → Clause
 value_clause maybe v = if maybe then clause.MaybeValue v else clause.Value v
 
--- the clause as it is written; none where the value is 2^127 or above, which no type has
+abbrev pub written_clause : ClauseNode → Clause
+written_clause (written.Star at) = clause.Star
+written_clause (written.Value at maybe value_at negative n) = value_clause maybe (value_meant negative n)
+written_clause (written.Noexcept at) = clause.Noexcept
+
+-- the clause as it is written
 abbrev pub clause_meant : Option ClauseNode → Option Clause
 clause_meant None = None
-clause_meant (Some (written.Star at)) = Some clause.Star
-clause_meant (Some (written.Value at maybe value_at negative n)) = if nat_lt n (2 ^ 127) then Some (value_clause maybe (signed negative n)) else None
-clause_meant (Some (written.Noexcept at)) = Some clause.Noexcept
+clause_meant (Some c) = Some (written_clause c)
 
 -- ---- signatures
 

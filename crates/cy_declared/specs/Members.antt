@@ -16,7 +16,7 @@ use Rattle.cy_tree.specs.declared.decl.Top.TheVariants as top
 use Rattle.cy_tree.specs.declared.set.NamedSet.{NamedSet}
 use Rattle.cy_tree.specs.declared.ty.ClassId.{ClassId}
 use Rattle.cy_tree.specs.Bases.{bases}
-use Rattle.cy_tree.specs.Functions.{functions_of}
+use Rattle.cy_tree.specs.Functions.{functions_of, methods_of}
 use Rattle.cy_around.specs.declared.member.MemberSaid.{MemberSaid}
 use Rattle.cy_around.specs.declared.member.MemberSaid.TheVariants as said
 use Rattle.cy_scope.specs.declared.known.Known.{Known}
@@ -61,23 +61,29 @@ field_entries known set m class = map (field_entry known set m.number) (fields_b
 
 -- ---- methods, which stand in the `.pyx`
 
--- the methods of a class of module m, numbered from f on
+-- a method of a class, before which f functions of module m came
+abbrev pub method_entry : ℕ → ℕ → Member → List MemberEntry
+method_entry m f (member.Def d) = (d.name.text, own.Def) ∷ []
+method_entry m f (member.Method x) = (x.heading.name.text, own.Method (record { «module» = m; index = f })) ∷ []
+method_entry m f _ = []
+
 abbrev pub methods_from : ℕ → ℕ → List Member → List MemberEntry
 methods_from m f [] = []
-methods_from m f (member.Def d ∷ ms) = (d.name.text, own.Def) ∷ methods_from m (suc f) ms
-methods_from m f (member.Method x ∷ ms) = (x.heading.name.text, own.Method (record { «module» = m; index = f })) ∷ methods_from m (suc f) ms
-methods_from m f (x ∷ ms) = methods_from m f ms
+methods_from m f (x ∷ xs) = method_entry m f x ++ methods_from m (f + length (methods_of x)) xs
 
 -- ---- classes
 
 abbrev pub members_of_class : Known → NamedSet → Module → ℕ → Class → List MemberEntry
 members_of_class known set m f class = field_entries known set m class ++ methods_from m.number f class.members
 
+abbrev pub members_here : Known → NamedSet → Module → ℕ → Top → List (List MemberEntry)
+members_here known set m f (top.Class c) = members_of_class known set m f c ∷ []
+members_here known set m f _ = []
+
 -- the members of each class of a module, by the classes' numbers; f functions came before
 abbrev pub members_from : Known → NamedSet → Module → ℕ → List Top → List (List MemberEntry)
 members_from known set m f [] = []
-members_from known set m f (top.Class c ∷ ts) = members_of_class known set m f c ∷ members_from known set m (f + length (functions_of (top.Class c))) ts
-members_from known set m f (t ∷ ts) = members_from known set m (f + length (functions_of t)) ts
+members_from known set m f (t ∷ ts) = members_here known set m f t ++ members_from known set m (f + length (functions_of t)) ts
 
 abbrev pub class_members : Known → NamedSet → Module → List (List MemberEntry)
 class_members known set m = members_from known set m 0 (tops set.set m.files)

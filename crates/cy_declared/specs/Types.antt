@@ -26,10 +26,14 @@ abbrev pub class_type : Option NameKind → Option Ty
 class_type (Some (kind.Class id)) = Some (ty.Class id)
 class_type _ = None
 
--- `object` is always the type; else a class of the scope; `m.A` is a class that the `.pxd` of the module m declares
+-- `object` is always the type; else a class of the scope
+abbrev pub named_type : NamedSet → ℕ → List ℕ → Option Ty
+named_type set scope name = if bytes_eq name (codes "object") then Some ty.Object else class_type (Some (meaning_in set scope name))
+
+-- number words, a name, or `m.A`, which is a class that the `.pxd` of the module m declares
 abbrev pub name_meant : Known → NamedSet → ℕ → TypeName → Option Ty
 name_meant known set scope (type.Number w) = Some (words_meant w)
-name_meant known set scope (type.Named i) = if bytes_eq i.text (codes "object") then Some ty.Object else class_type (Some (meaning_in set scope i.text))
+name_meant known set scope (type.Named i) = named_type set scope i.text
 name_meant known set scope (type.Member outer i) = class_type (kind_through known (Some (meaning_in set scope outer.text)) i.text)
 
 -- ---- views

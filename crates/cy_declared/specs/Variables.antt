@@ -6,6 +6,7 @@ use Rattle.cy_tree.specs.declared.decl.Param.{Param}
 use Rattle.cy_tree.specs.declared.decl.Top.{Top}
 use Rattle.cy_tree.specs.declared.decl.Top.TheVariants as top
 use Rattle.cy_tree.specs.declared.set.NamedSet.{NamedSet}
+use Rattle.cy_tree.specs.declared.set.Scope.{Scope}
 use Rattle.cy_tree.specs.declared.ty.ClassId.{ClassId}
 use Rattle.cy_tree.specs.declared.ty.Ty.{Ty}
 use Rattle.cy_tree.specs.declared.ty.Ty.TheVariants as ty
@@ -13,8 +14,9 @@ use Rattle.cy_tree.specs.declared.types.Ident.{Ident}
 use Rattle.cy_tree.specs.declared.types.TypeNode.{TypeNode}
 use Rattle.cy_mention.specs.Modules.{body_of, params_of}
 use Rattle.cy_scope.specs.declared.known.Known.{Known}
-use Rattle.cy_scope.specs.Declarations.{locals}
 use Rattle.cy_scope.specs.Files.{Module, modules, tops}
+use Rattle.name_table.specs.Entries.{texts}
+use Rattle.name_table.specs.Shown.{shown}
 use Rattle.type_uses.specs.Uses.{TypeUse, Declares, stmt_uses, suite_uses}
 use Rattle.type_uses.specs.Trees.{variables_uses}
 use Rattle.cy_declared.specs.Functions.{Owned, among}
@@ -75,6 +77,10 @@ abbrev pub type_among : List Typed → List ℕ → Option Ty
 type_among [] name = None
 type_among (t ∷ ts) name = if bytes_eq name t.0 then Some t.1 else type_among ts name
 
--- the types of a function's locals, by their numbers; one that isn't declared is `object`
+abbrev pub names_in : Option Scope → List (List ℕ)
+names_in None = []
+names_in (Some scope) = texts (shown scope.names.entries)
+
+-- the types of a function's locals, in the order of the names that its scope holds; one that isn't declared is `object`
 abbrev pub local_types : Known → NamedSet → ℕ → ℕ → Owned → List Ty
-local_types known set m scope o = map (λ name. or_object (type_among (typed_names known set m scope o) name)) (locals o.function)
+local_types known set m scope o = map (λ name. or_object (type_among (typed_names known set m scope o) name)) (names_in (slice_get set.scopes scope))

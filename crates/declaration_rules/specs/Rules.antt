@@ -1,6 +1,6 @@
 -- The rules on declarations as they are written, by their numbers: each lists where it is broken (Cython documentation, "Language Basics",
 -- "Extension Types", "Special Methods of Extension Types", "Typed Memoryviews"). A type that breaks a rule does so at its first byte.
-use Rattle.std.specs.Prelude.{ℕ, suc, ◌-◌, Bool, true, false, not, ◌&&◌, ◌||◌, if◌then◌else◌, nat_eq, nat_lt, List, [], ◌∷◌, ◌++◌, Option, Some, None, is_none, length, slice_get, codes}
+use Rattle.std.specs.Prelude.{ℕ, ◌-◌, Bool, true, false, not, ◌&&◌, ◌||◌, if◌then◌else◌, nat_eq, nat_lt, List, [], ◌∷◌, ◌++◌, Option, Some, None, is_none, length, slice_get, codes}
 use Rattle.std.specs.List.{flat_map}
 use Rattle.std.specs.Str.{bytes_eq}
 use Rattle.cy_base.specs.declared.place.Phase.TheVariants.{Static}

@@ -75,7 +75,7 @@ fn judge_heading(file: FileId, is_method: bool, heading: &Heading, least: Least)
 }
 
 fn judge(file: FileId, declaration: Declaration<'_>, least: Least) -> Least
-    ensures { IsLeastWith least (special_breaches file (declaration_shown declaration)) result }
+    ensures { IsLeastWith least (special_breaches file (declaration_shown declaration.entry)) result }
 {
     match declaration {
         Declaration::Defined(is_method, def) => judge_def(file, is_method, def, least),

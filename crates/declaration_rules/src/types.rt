@@ -36,7 +36,7 @@ fn is_void_view(kind: &TypeNode) -> bool
 }
 
 fn judge_void(file: FileId, found: TypeUse<'_>, least: Least) -> Least
-    ensures { IsLeastWith least (void_breaches file (shown found)) result }
+    ensures { IsLeastWith least (void_breaches file (shown found.entry)) result }
 {
     match found {
         TypeUse::PlaceType(kind) => note_if(is_void(&kind.name), least, breaks(file, 14, kind.at)),
@@ -73,7 +73,7 @@ fn judge_form(file: FileId, kind: &TypeNode, least: Least) -> Least
 }
 
 fn judge_type(file: FileId, found: TypeUse<'_>, least: Least) -> Least
-    ensures { IsLeastWith least (type_breaches file (shown found)) result }
+    ensures { IsLeastWith least (type_breaches file (shown found.entry)) result }
 {
     match found {
         TypeUse::PlaceType(kind) => judge_form(file, kind, least),

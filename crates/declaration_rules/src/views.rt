@@ -65,7 +65,7 @@ fn judge_heading(file: FileId, is_method: bool, heading: &Heading, least: Least)
 }
 
 fn judge(file: FileId, declaration: Declaration<'_>, least: Least) -> Least
-    ensures { IsLeastWith least (view_breaches file (declaration_shown declaration)) result }
+    ensures { IsLeastWith least (view_breaches file (declaration_shown declaration.entry)) result }
 {
     match declaration {
         Declaration::Defined(_, _) => least,

@@ -3,7 +3,7 @@ use Rattle.std.specs.List.{flat_map}
 use Rattle.cy_base.specs.declared.place.Refusal.{Refusal}
 use Rattle.first_breach.specs.First.{IsLeastWith}
 use Rattle.declaration_rules.specs.Rules.{void_breaches}
-use Rattle.type_uses.specs.Shown.{all_shown, shown}
+use Rattle.type_uses.specs.Shown.{all_shown}
 use Rattle.declaration_rules.proofs.types.judge_voids.Given as goal
 
 abbrev pub invariant-loop-found : goal.invariant-loop-found

@@ -2,7 +2,7 @@ use Rattle.std.proofs.Common.{Option, drop}
 use Rattle.std.specs.List.{flat_map}
 use Rattle.cy_base.specs.declared.place.Refusal.{Refusal}
 use Rattle.first_breach.specs.First.{IsLeastWith}
-use Rattle.declaration_rules.specs.DeclarationsShown.{declaration_shown, declarations_shown}
+use Rattle.declaration_rules.specs.DeclarationsShown.{declarations_shown}
 use Rattle.declaration_rules.specs.Rules.{view_breaches}
 use Rattle.declaration_rules.proofs.views.judge_views.Given as goal
 
