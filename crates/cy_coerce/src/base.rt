@@ -55,12 +55,19 @@ fn as_class_id(kind: Option<NameKind>) -> Option<ClassId>
     }
 }
 
-// One step from a class to its base.
-fn base_of(set: &NamedSet, id: ClassId) -> Option<ClassId>
+/// The class that a base's name means in a module; None where it means none.
+pub fn base_named(set: &NamedSet, number: u32, base: Option<&ClassBase>) -> Option<ClassId>
+    ensures { result ≡ as_class_id (kind_of_base set.now number (option_copied base.entry)) }
+{
+    as_class_id(kind_of_base(set, number, base))
+}
+
+/// One step from a class to its base (Cython documentation, "Extension Types", Subclassing).
+pub fn base_of(set: &NamedSet, id: ClassId) -> Option<ClassId>
     ensures { result ≡ base_of set.now id }
 {
     let class = class_of(set, id)?;
-    as_class_id(kind_of_base(set, id.module, class.base.as_ref()))
+    base_named(set, id.module, class.base.as_ref())
 }
 
 /// Whether a class is a base class of another: 1 to 31 steps lead to it (Cython documentation, "Extension Types").

@@ -11,6 +11,8 @@ ghost use Rattle.cy_tree.specs.declared.set.NamedSet.{NamedSet};
 ghost use Rattle.cy_tree.specs.Bases.{class_eq, is_base};
 ghost use Rattle.cy_tree.specs.Coercions.{coercion_of, is_wider, view_eq};
 
+pub use base::{base_named, base_of};
+
 use crate::base::is_base;
 use crate::same::{is_signed, same_class, same_elements, same_number, same_view};
 use cy_num::CNum;

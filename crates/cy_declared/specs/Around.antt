@@ -3,6 +3,7 @@ use Rattle.std.specs.Prelude.{ℕ, suc, ◌+◌, List, [], ◌∷◌, ◌++◌, 
 use Rattle.cy_tree.specs.declared.set.NameKind.{NameKind}
 use Rattle.cy_tree.specs.declared.set.NamedSet.{NamedSet}
 use Rattle.cy_tree.specs.declared.ty.Ty.{Ty}
+use Rattle.cy_tree.specs.declared.ty.Ty.TheVariants as ty
 use Rattle.cy_tree.specs.Coercions.{coercion_of}
 use Rattle.cy_around.specs.Surroundings.{Surroundings}
 use Rattle.cy_scope.specs.declared.known.Known.{Known}
@@ -10,8 +11,8 @@ use Rattle.cy_scope.specs.Declarations.{kind_in, known_of}
 use Rattle.cy_scope.specs.Files.{Module, modules}
 use Rattle.cy_declared.specs.Functions.{Owned, callable, owned_functions}
 use Rattle.cy_declared.specs.Members.{member_of}
-use Rattle.cy_declared.specs.Types.{meaning_in, or_object}
-use Rattle.cy_declared.specs.Variables.{local_types, variable_type}
+use Rattle.cy_declared.specs.Types.{meaning_in}
+use Rattle.cy_declared.specs.Variables.{local_type, variable_type}
 
 -- what a module declares to others: the classes and C functions of its `.pxd`, as its `.pyx` gives them
 abbrev pub exported : Known → ℕ → List ℕ → Option NameKind
@@ -42,15 +43,15 @@ all_scoped set = map module_scoped (modules set.set) ++ all_functions_scoped set
 
 -- ---- what is known in a scope
 
--- the types of locals: a module has none
-abbrev pub locals_in : Known → NamedSet → Scoped → Option Owned → List Ty
-locals_in known set s None = []
-locals_in known set s (Some o) = local_types known set s.module_number s.scope o
+-- a module has no locals
+abbrev pub local_in : Known → NamedSet → Scoped → Option Owned → ℕ → Ty
+local_in known set s None number = ty.Object
+local_in known set s (Some o) number = local_type known set s.module_number s.scope o number
 
 abbrev pub around_with : Known → NamedSet → Scoped → Surroundings
 around_with known set s = record {
   kind = meaning_in set s.scope;
-  local = λ number. or_object (slice_get (locals_in known set s s.function) number);
+  local = local_in known set s s.function;
   variable = variable_type known set s.module_number;
   function = callable known set;
   exported = exported known;

@@ -24,6 +24,7 @@ use Rattle.cy_scope.specs.Files.{Module, items, modules, tops}
 use Rattle.cy_declared.specs.declared.member.OwnMember.{OwnMember}
 use Rattle.cy_declared.specs.declared.member.OwnMember.TheVariants as own
 use Rattle.cy_declared.specs.Functions.{among}
+use Rattle.cy_declared.specs.Named.{first_among, first_by}
 use Rattle.cy_declared.specs.Types.{place_type}
 use Rattle.cy_declared.specs.Variables.{Declaration}
 
@@ -42,11 +43,13 @@ pxd_fields_in (pxd_member.OpenFields at access kind names) = map (λ i. (i, Some
 pxd_fields_in (pxd_member.Fields at kind names) = map (λ i. (i, kind)) names
 pxd_fields_in _ = []
 
--- the first class of a name that a `.pxd` declares
-abbrev pub class_named : List PxdItem → List ℕ → Option PxdClass
-class_named [] name = None
-class_named (item.Class c ∷ is) name = if bytes_eq name c.name.text then Some c else class_named is name
-class_named (i ∷ is) name = class_named is name
+abbrev pub classes_in : PxdItem → List PxdClass
+classes_in (item.Class c) = c ∷ []
+classes_in _ = []
+
+-- the first class of a name
+abbrev pub class_named : List PxdClass → List ℕ → Option PxdClass
+class_named cs name = first_by (λ c. c.name.text) (λ c. c) cs name
 
 -- the fields of a class: those in the `.pxd` where it declares the class, else those in the `.pyx`
 abbrev pub fields_by : Option PxdClass → Class → List Declaration
@@ -56,8 +59,9 @@ fields_by None class = flat_map fields_in class.members
 abbrev pub field_entry : Known → NamedSet → ℕ → Declaration → MemberEntry
 field_entry known set m d = (d.0.text, own.Field (place_type known set m d.1))
 
-abbrev pub field_entries : Known → NamedSet → Module → Class → List MemberEntry
-field_entries known set m class = map (field_entry known set m.number) (fields_by (class_named (items set.set m.files) class.name.text) class)
+-- the fields of a class of module m, whose `.pxd` declares the classes cs
+abbrev pub field_entries : Known → NamedSet → ℕ → List PxdClass → Class → List MemberEntry
+field_entries known set m cs class = map (field_entry known set m) (fields_by (class_named cs class.name.text) class)
 
 -- ---- methods, which stand in the `.pyx`
 
@@ -73,29 +77,25 @@ methods_from m f (x ∷ xs) = method_entry m f x ++ methods_from m (f + length (
 
 -- ---- classes
 
-abbrev pub members_of_class : Known → NamedSet → Module → ℕ → Class → List MemberEntry
-members_of_class known set m f class = field_entries known set m class ++ methods_from m.number f class.members
+-- the members of a class of module m, before which f functions came
+abbrev pub members_of_class : Known → NamedSet → ℕ → List PxdClass → ℕ → Class → List MemberEntry
+members_of_class known set m cs f class = field_entries known set m cs class ++ methods_from m f class.members
 
-abbrev pub members_here : Known → NamedSet → Module → ℕ → Top → List (List MemberEntry)
-members_here known set m f (top.Class c) = members_of_class known set m f c ∷ []
-members_here known set m f _ = []
+abbrev pub members_here : Known → NamedSet → ℕ → List PxdClass → ℕ → Top → List (List MemberEntry)
+members_here known set m cs f (top.Class c) = members_of_class known set m cs f c ∷ []
+members_here known set m cs f _ = []
 
--- the members of each class of a module, by the classes' numbers; f functions came before
-abbrev pub members_from : Known → NamedSet → Module → ℕ → List Top → List (List MemberEntry)
-members_from known set m f [] = []
-members_from known set m f (t ∷ ts) = members_here known set m f t ++ members_from known set m (f + length (functions_of t)) ts
+-- the members of each class of a module, by the classes' numbers
+abbrev pub members_from : Known → NamedSet → ℕ → List PxdClass → ℕ → List Top → List (List MemberEntry)
+members_from known set m cs f [] = []
+members_from known set m cs f (t ∷ ts) = members_here known set m cs f t ++ members_from known set m cs (f + length (functions_of t)) ts
 
 abbrev pub class_members : Known → NamedSet → Module → List (List MemberEntry)
-class_members known set m = members_from known set m 0 (tops set.set m.files)
-
--- what the first entry of a name says
-abbrev pub member_among : List MemberEntry → List ℕ → Option OwnMember
-member_among [] name = None
-member_among (e ∷ es) name = if bytes_eq name e.0 then Some e.1 else member_among es name
+class_members known set m = members_from known set m.number (flat_map classes_in (items set.set m.files)) 0 (tops set.set m.files)
 
 abbrev pub member_in : Option (List MemberEntry) → List ℕ → Option OwnMember
 member_in None name = None
-member_in (Some es) name = member_among es name
+member_in (Some es) name = first_among es name
 
 -- a member that a class declares itself
 abbrev pub own_member : Known → NamedSet → ClassId → List ℕ → Option OwnMember

@@ -20,6 +20,7 @@ use Rattle.name_table.specs.Shown.{shown}
 use Rattle.type_uses.specs.Uses.{TypeUse, Declares, stmt_uses, suite_uses}
 use Rattle.type_uses.specs.Trees.{variables_uses}
 use Rattle.cy_declared.specs.Functions.{Owned, among}
+use Rattle.cy_declared.specs.Named.{first_among}
 use Rattle.cy_declared.specs.Types.{place_type, or_object}
 
 -- a name, and its type as it is written
@@ -72,15 +73,16 @@ typed_names known set m scope o =
     typed_params known set m o.owner (params_of o.function)
     ++ map (typed_declaration known set scope) (declared_by (suite_uses (body_of o.function)))
 
--- the type that the first entry of a name gives
-abbrev pub type_among : List Typed → List ℕ → Option Ty
-type_among [] name = None
-type_among (t ∷ ts) name = if bytes_eq name t.0 then Some t.1 else type_among ts name
+-- the name of a number among those that a scope holds
+abbrev pub named_at : Option Scope → ℕ → Option (List ℕ)
+named_at None number = None
+named_at (Some scope) number = slice_get (texts (shown scope.names.entries)) number
 
-abbrev pub names_in : Option Scope → List (List ℕ)
-names_in None = []
-names_in (Some scope) = texts (shown scope.names.entries)
+-- the type of a name; one that isn't declared is `object`
+abbrev pub typed_as : List Typed → Option (List ℕ) → Ty
+typed_as ts None = ty.Object
+typed_as ts (Some name) = or_object (first_among ts name)
 
--- the types of a function's locals, in the order of the names that its scope holds; one that isn't declared is `object`
-abbrev pub local_types : Known → NamedSet → ℕ → ℕ → Owned → List Ty
-local_types known set m scope o = map (λ name. or_object (type_among (typed_names known set m scope o) name)) (names_in (slice_get set.scopes scope))
+-- the type of a function's local, by its number
+abbrev pub local_type : Known → NamedSet → ℕ → ℕ → Owned → ℕ → Ty
+local_type known set m scope o number = typed_as (typed_names known set m scope o) (named_at (slice_get set.scopes scope) number)

@@ -8,3 +8,10 @@ pub enum OwnMember {
     Method(FnId),
     Def,
 }
+
+/// A member with its name. The project's own.
+#[derive(Clone, Copy)]
+pub struct MemberRef<'a> {
+    pub name: &'a [u8],
+    pub member: OwnMember,
+}

@@ -1,0 +1,9 @@
+use Rattle.std.proofs.Common.{◌≡◌, ◌++◌, drop, map}
+use Rattle.std.specs.List.{flat_map}
+use Rattle.std.specs.Option.{option_copied}
+use Rattle.cy_declared.specs.Shown.{class_refs, declarations_shown, members_shown}
+use Rattle.cy_declared.specs.Members.{methods_from}
+use Rattle.cy_declared.proofs.class.note_methods.Given as goal
+
+abbrev pub invariant-loop-member : goal.invariant-loop-member
+invariant-loop-member l = members_shown l.initial.out.items ++ methods_from l.«module» l.before l.members ≡ members_shown l.out.items ++ methods_from l.«module» l.count (drop l.member-index l.members)

@@ -1,0 +1,9 @@
+use Rattle.std.proofs.Common.{◌≡◌, ◌++◌, drop, map}
+use Rattle.std.specs.List.{flat_map}
+use Rattle.std.specs.Option.{option_copied}
+use Rattle.cy_declared.specs.Shown.{class_refs, declarations_shown, members_shown}
+use Rattle.cy_declared.specs.Members.{pxd_fields_in}
+use Rattle.cy_declared.proofs.field.note_all_pxd_fields.Given as goal
+
+abbrev pub invariant-loop-member : goal.invariant-loop-member
+invariant-loop-member l = declarations_shown l.initial.out.items ++ flat_map pxd_fields_in l.members ≡ declarations_shown l.out.items ++ flat_map pxd_fields_in (drop l.member-index l.members)

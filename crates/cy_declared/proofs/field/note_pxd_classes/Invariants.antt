@@ -1,0 +1,9 @@
+use Rattle.std.proofs.Common.{◌≡◌, ◌++◌, drop, map}
+use Rattle.std.specs.List.{flat_map}
+use Rattle.std.specs.Option.{option_copied}
+use Rattle.cy_declared.specs.Shown.{class_refs, declarations_shown, members_shown}
+use Rattle.cy_declared.specs.Members.{classes_in}
+use Rattle.cy_declared.proofs.field.note_pxd_classes.Given as goal
+
+abbrev pub invariant-loop-item : goal.invariant-loop-item
+invariant-loop-item l = class_refs l.initial.out.items ++ flat_map classes_in l.items ≡ class_refs l.out.items ++ flat_map classes_in (drop l.item-index l.items)

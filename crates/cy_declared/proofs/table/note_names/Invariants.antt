@@ -1,0 +1,9 @@
+use Rattle.std.proofs.Common.{◌≡◌, ◌++◌, drop, map}
+use Rattle.std.specs.List.{flat_map}
+use Rattle.std.specs.Option.{option_copied}
+use Rattle.cy_declared.specs.Shown.{class_refs, declarations_shown, members_shown}
+use Rattle.name_table.specs.EntriesShown.{slices}
+use Rattle.cy_declared.proofs.table.note_names.Given as goal
+
+abbrev pub invariant-loop-entry : goal.invariant-loop-entry
+invariant-loop-entry l = slices l.initial.out.items ++ map (λ e. e.0) (members_shown l.entries) ≡ slices l.out.items ++ map (λ e. e.0) (members_shown (drop l.entry-index l.entries))
