@@ -62,6 +62,13 @@ pub fn base_named(set: &NamedSet, number: u32, base: Option<&ClassBase>) -> Opti
     as_class_id(kind_of_base(set, number, base))
 }
 
+/// The class that a name means among those that a module declares; None where it means none.
+pub fn class_declared(set: &NamedSet, number: u32, name: &Ident) -> Option<ClassId>
+    ensures { result ≡ as_class_id (kind_of set.now number name.now) }
+{
+    as_class_id(kind_of(set, number, name))
+}
+
 /// One step from a class to its base (Cython documentation, "Extension Types", Subclassing).
 pub fn base_of(set: &NamedSet, id: ClassId) -> Option<ClassId>
     ensures { result ≡ base_of set.now id }

@@ -11,7 +11,8 @@ ghost use Rattle.cy_tree.specs.declared.set.NamedSet.{NamedSet};
 ghost use Rattle.cy_tree.specs.Bases.{class_eq, is_base};
 ghost use Rattle.cy_tree.specs.Coercions.{coercion_of, is_wider, view_eq};
 
-pub use base::{base_named, base_of};
+pub use base::{base_named, base_of, class_declared};
+pub use same::same_type;
 
 use crate::base::is_base;
 use crate::same::{is_signed, same_class, same_elements, same_number, same_view};

@@ -3,12 +3,13 @@ ghost use Rattle.std.specs.Prelude.{◌≡◌, ◌++◌, ◌∷◌, IfOk, OnOk, 
 ghost use Rattle.std.specs.List.{flat_map};
 ghost use Rattle.std.specs.Option.{option_copied, option_map};
 ghost use Rattle.cy_declared.specs.Around.{exported};
-ghost use Rattle.cy_declared.specs.Functions.{among, callable_of, callables, joined};
-ghost use Rattle.cy_declared.specs.Members.{as_said};
+ghost use Rattle.cy_declared.specs.Functions.{among, callable, callable_of, callables, joined};
+ghost use Rattle.cy_declared.specs.Members.{as_said, own_member};
 ghost use Rattle.cy_declared.specs.Shown.{all_owned_shown};
 ghost use Rattle.cy_declared.specs.Tables.{function_at, looked_up, module_tables, nearest_member, own_member_at, tables_with, variable_at};
 ghost use Rattle.cy_declared.specs.Variables.{variable_types};
 ghost use Rattle.cy_scope.specs.Declarations.{known_of};
+ghost use Rattle.cy_tree.specs.declared.set.NamedSet.{NamedSet as Set};
 ghost use Rattle.cy_scope.specs.Files.{modules, modules_from};
 
 use crate::class::class_members;
@@ -137,7 +138,8 @@ impl Tables {
 
     /// The C function or method of an id.
     pub fn function(&self, id: FnId) -> Option<&Callable>
-        ensures { option_copied result ≡ function_at self.entry.now id }
+        ensures at { option_copied result ≡ function_at self.entry.now id }
+        ensures declared { (set : Set) → self.entry.now ≡ tables_with self.entry.now.known set → option_copied result ≡ callable self.entry.now.known set id }
     {
         let tables = at(self.modules.as_slice(), id.module as usize)?;
         at(tables.functions.as_slice(), id.index as usize)?.as_ref()
@@ -164,7 +166,8 @@ impl Tables {
 
     /// A member that a class declares itself.
     pub fn own_member(&self, class: ClassId, name: &[u8]) -> Option<OwnMember>
-        ensures { result ≡ own_member_at self.now class name.now }
+        ensures at { result ≡ own_member_at self.now class name.now }
+        ensures declared { (set : Set) → self.now ≡ tables_with self.now.known set → result ≡ own_member self.now.known set class name.now }
     {
         let tables = at(self.modules.as_slice(), class.module as usize)?;
         at(tables.classes.as_slice(), class.index as usize)?.get(name)

@@ -1,0 +1,13 @@
+//! The rules on declarations by what their types and names mean: exception clauses, bases, overrides and `not None`.
+#![tactic(auto)]
+
+mod above;
+mod bases;
+mod clauses;
+mod file;
+mod nones;
+mod overrides;
+mod place;
+mod same;
+
+pub use file::typed;
