@@ -1,7 +1,8 @@
 //! Trace lines.
 use crate::object::{Allocation, Callee, ClassName, MemberPath, Obj};
 use crate::op::{Answer, Op};
-use c_token::{Bytes, NumberType};
+use c_token::Bytes;
+use cy_num::CNum;
 use sqlite_items::Items;
 
 /// One line of a trace. `Get` and `Put` have the view, the byte place from the start of its buffer, the element's
@@ -21,8 +22,8 @@ pub enum Event {
     LeaveRaise(Obj),
     Save,
     Restore,
-    Get(u32, i128, NumberType, i128),
-    Put(u32, i128, NumberType, i128),
+    Get(u32, i128, CNum, i128),
+    Put(u32, i128, CNum, i128),
     Item(Obj, i128, Obj),
     End,
     Stop,

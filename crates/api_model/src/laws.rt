@@ -1,8 +1,10 @@
-//! What holds for each row of the table, and for each answer.
-ghost use Rattle.std.specs.Prelude.{◌≡◌, ℕ, List, IfSome, IsTrue, length, not, true};
+//! What holds for each row of the table, for each answer, and for each two objects.
+ghost use Rattle.std.specs.Prelude.{◌≡◌, ◌↔◌, ℕ, List, IfSome, IsTrue, length, not, true};
 ghost use Rattle.api_model.specs.Rows.{api_table, row_of};
 ghost use Rattle.api_model.specs.Answers.{answer_of, fits_of};
 ghost use Rattle.api_model.specs.InForm.{can_answer};
+ghost use Rattle.api_model.specs.Objects.{same_obj};
+ghost use Rattle.api_model.specs.declared.object.Obj.{Obj as ObjValue};
 ghost use Rattle.api_model.specs.declared.op.Op.{Op as OpValue};
 ghost use Rattle.api_model.specs.declared.entry.Entry.{Entry as EntryValue};
 ghost use Rattle.api_model.specs.RowLaws.{are_distinct, may_have_error, may_lack_lock};
@@ -37,4 +39,9 @@ pub fn rows_are_clean()
 #[tactic(auto, using(crate::proofs::InForm::answer_fits))]
 pub fn answers_are_in_form()
     ensures { (o : OpValue) (e : EntryValue) (instances views : ℕ) → can_answer (fits_of o) (answer_of o e instances views) ≡ true }
+{}
+
+/// The test of two objects says that they are one exactly where they are equal. A law; it does nothing.
+pub fn one_object_is_an_equal_one()
+    ensures { (x y : ObjValue) → IsTrue (same_obj x y) ↔ (x ≡ y) }
 {}

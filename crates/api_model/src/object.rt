@@ -1,5 +1,6 @@
 //! Objects of the object space, and the dotted names of what a script enters.
 ghost use Rattle.std.specs.Prelude.{◌≡◌, IfOk};
+ghost use Rattle.api_model.specs.Objects.{is_permanent, same_class, same_obj};
 
 use c_token::{Bytes, Exception};
 use cy_base::OutOfMemory;
@@ -27,6 +28,13 @@ impl ClassName {
             module: copied(alloc, &self.module)?,
             class: copied(alloc, &self.class)?,
         })
+    }
+
+    fn is(&self, other: &ClassName) -> bool
+        ensures { result ≡ same_class self.now other.now }
+    {
+        self.module.as_slice() == other.module.as_slice()
+            && self.class.as_slice() == other.class.as_slice()
     }
 }
 
@@ -66,6 +74,34 @@ pub enum Obj {
 }
 
 impl Obj {
+    /// Whether both are one object.
+    pub fn is(&self, other: &Obj) -> bool
+        ensures { result ≡ same_obj self.now other.now }
+    {
+        match (self, other) {
+            (Obj::Foreign(k), Obj::Foreign(j)) => *k == *j,
+            (Obj::Inst(k), Obj::Inst(j)) => *k == *j,
+            (Obj::View(k), Obj::View(j)) => *k == *j,
+            (Obj::Class(a), Obj::Class(b)) => a.is(b),
+            (Obj::ExceptionType(a), Obj::ExceptionType(b)) => *a as u8 == *b as u8,
+            (Obj::NoneNode, Obj::NoneNode) => true,
+            (Obj::TrueNode, Obj::TrueNode) => true,
+            (Obj::FalseNode, Obj::FalseNode) => true,
+            _ => false,
+        }
+    }
+
+    /// Whether the object is never released: None, True, False, an exception type or a class object.
+    pub fn is_permanent(&self) -> bool
+        ensures { result ≡ is_permanent self.now }
+    {
+        match self {
+            Obj::NoneNode | Obj::TrueNode | Obj::FalseNode => true,
+            Obj::ExceptionType(_) | Obj::Class(_) => true,
+            Obj::Foreign(_) | Obj::Inst(_) | Obj::View(_) => false,
+        }
+    }
+
     /// A copy of the object.
     pub fn copied(&self, alloc: Global) -> Result<Obj, OutOfMemory>
         ensures { IfOk result (λ r. r ≡ self.now) }

@@ -1,9 +1,9 @@
 use crate::{
     Answer, ApiRow, BinaryOp, Change, ClassName, Entry, Fails, Gives, Info, Make, Obj, Op, answer,
-    answers_are_in_form, entries_need_the_lock, functions_are_distinct, row, rows_are_clean,
-    rows_need_the_lock,
+    answers_are_in_form, entries_need_the_lock, functions_are_distinct, is_view,
+    one_object_is_an_equal_one, row, rows_are_clean, rows_need_the_lock,
 };
-use c_token::Bytes;
+use c_token::{Bytes, Exception};
 use cy_base::OutOfMemory;
 use sqlite_items::Items;
 use std::alloc::Global;
@@ -271,6 +271,24 @@ fn instances_and_views(rt: HostRuntime) -> Result<(), Fail> {
 }
 
 #[test]
+fn buffers_of_views(rt: HostRuntime) -> Result<(), Fail> {
+    let alloc = rt.alloc();
+    let mut info = Info {
+        letter: None,
+        at_sign: false,
+        item: 1,
+        readonly: true,
+        indirect: false,
+        shape: Items::from_slice(alloc, &[3])?,
+        strides: Items::from_slice(alloc, &[-1])?,
+    };
+    assert!(rt; is_view(&info));
+    info.shape = Items::from_slice(alloc, &[-3])?;
+    assert!(rt; !is_view(&info));
+    Ok(())
+}
+
+#[test]
 fn objects_are_copied(rt: HostRuntime) -> Result<(), Fail> {
     let alloc = rt.alloc();
     assert_eq!(rt; name_of(&Obj::Inst(4).copied(alloc)?), Named::Inst(4));
@@ -281,6 +299,27 @@ fn objects_are_copied(rt: HostRuntime) -> Result<(), Fail> {
     let copy = class.copied(alloc)?;
     assert_eq!(rt; copy.module.as_slice(), b"m".as_slice());
     assert_eq!(rt; copy.class.as_slice(), b"C".as_slice());
+    Ok(())
+}
+
+#[test]
+fn objects_are_compared(rt: HostRuntime) -> Result<(), Fail> {
+    let alloc = rt.alloc();
+    let class = Obj::Class(ClassName {
+        module: text(alloc, b"m")?,
+        class: text(alloc, b"C")?,
+    });
+    let other = Obj::Class(ClassName {
+        module: text(alloc, b"m")?,
+        class: text(alloc, b"D")?,
+    });
+    assert!(rt; class.is(&class));
+    assert!(rt; !class.is(&other));
+    assert!(rt; !Obj::Inst(1).is(&Obj::View(1)));
+    assert!(rt; Obj::NoneNode.is(&Obj::NoneNode));
+    assert!(rt; class.is_permanent());
+    assert!(rt; Obj::ExceptionType(Exception::TypeError).is_permanent());
+    assert!(rt; !Obj::Foreign(0).is_permanent());
     Ok(())
 }
 
@@ -314,4 +353,5 @@ fn laws_are_called() {
     rows_need_the_lock();
     rows_are_clean();
     answers_are_in_form();
+    one_object_is_an_equal_one();
 }

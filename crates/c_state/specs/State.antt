@@ -1,0 +1,335 @@
+-- The state of the machine: what several threads share, and what is one thread's own. The project's own.
+use Rattle.std.specs.Prelude.{ℕ, zero, suc, Bool, true, false, ◌&&◌, ◌||◌, List, [], ◌∷◌, Option, Some, None, map, slice_get, slice_set, slice_index_or, if◌then◌else◌}
+use Rattle.std.specs.List.{list_any}
+use Rattle.api_model.specs.declared.object.Obj.{Obj}
+use Rattle.api_model.specs.declared.object.Obj.TheVariants as obj
+use Rattle.api_model.specs.declared.object.Allocation.{Allocation}
+use Rattle.api_model.specs.declared.info.Info.{Info}
+use Rattle.api_model.specs.Objects.{is_permanent}
+use Rattle.c_tree.specs.declared.name.Numbered.{Numbered}
+use Rattle.c_tree.specs.declared.name.Place.{Place}
+use Rattle.c_tree.specs.declared.name.Place.TheVariants as place
+use Rattle.c_tree.specs.declared.name.Variable.{Variable}
+use Rattle.c_tree.specs.declared.value.CType.{CType}
+use Rattle.c_tree.specs.declared.item.Base.{Base}
+use Rattle.c_tree.specs.declared.item.Base.TheVariants as base
+use Rattle.c_tree.specs.declared.item.TypeObject.{TypeObject}
+use Rattle.c_tree.specs.declared.item.Line.{Line}
+use Rattle.c_tree.specs.declared.item.CFunction.{CFunction}
+use Rattle.c_tree.specs.declared.item.CItem.{CItem}
+use Rattle.c_tree.specs.declared.item.CItem.TheVariants as item
+use Rattle.c_tree.specs.declared.item.CFile.{CFile}
+use Rattle.c_state.specs.declared.kind.Kind.{Kind}
+use Rattle.c_state.specs.declared.value.ItemPlace.{ItemPlace}
+use Rattle.c_state.specs.declared.value.Value.{Value}
+use Rattle.c_state.specs.declared.value.Value.TheVariants as value
+use Rattle.c_state.specs.declared.space.Spot.{Spot}
+use Rattle.c_state.specs.declared.space.Part.{Part}
+use Rattle.c_state.specs.declared.space.Instance.{Instance}
+use Rattle.c_state.specs.declared.space.Course.{Course}
+use Rattle.c_state.specs.declared.space.Course.TheVariants as course
+use Rattle.c_state.specs.declared.change.Remembered.{Remembered}
+use Rattle.c_state.specs.declared.frame.Cell.{Cell}
+use Rattle.c_state.specs.declared.frame.Entered.{Entered}
+use Rattle.c_state.specs.declared.frame.Doing.{Doing}
+use Rattle.c_state.specs.Names.{same_number, same_place, same_variable}
+use Rattle.c_state.specs.Linked.{item_count, struct_of, type_at}
+use Rattle.c_state.specs.Values.{kind_of, converted, zero_of, objects_in, has_objects}
+use Rattle.c_ledger.specs.Ledger.{has}
+use Rattle.c_state.specs.Ledger.{Ledger, empty_ledger, owned, lent}
+
+-- a function that was entered, with the lines that are left, and whether the lock was held at its entry
+pub record Frame : Type 0 where
+  pub file : ℕ
+  pub function : CFunction
+  pub code : List Line
+  pub variables : List Cell
+  pub entered : Entered
+  pub doing : Doing
+  pub lock : Bool
+
+-- What several threads share: the instances and the views, by their numbers; the places of each file; the number of the file
+-- behind the one whose initialisation began last, and whether one has failed; whether the lock is held.
+pub record Shared : Type 0 where
+  pub instances : List Instance
+  pub views : List Info
+  pub places : List (List Spot)
+  pub begun : ℕ
+  pub failed : Bool
+  pub lock : Bool
+
+-- What is one thread's own: the frames, the newest first; the ledger; the exception that is set; the states of the lock
+-- that are remembered, the newest first, and how many were asked for; how many entries of the script are taken; whether it is at its end.
+pub record Thread : Type 0 where
+  pub frames : List Frame
+  pub ledger : Ledger
+  pub error : Option Obj
+  pub remembered : List Remembered
+  pub ensured : ℕ
+  pub taken : ℕ
+  pub course : Course
+
+-- The state. Where it isn't strict, ownership and the lock are no faults, and no entry destroys an instance.
+pub record CState : Type 0 where
+  pub shared : Shared
+  pub thread : Thread
+  pub strict : Bool
+
+-- ---- changes of one part
+
+abbrev pub with_shared : CState → Shared → CState
+with_shared c s = record c { shared = s }
+
+abbrev pub with_thread : CState → Thread → CState
+with_thread c t = record c { thread = t }
+
+abbrev pub set_frames : Thread → List Frame → Thread
+set_frames t frames = record t { frames = frames }
+
+abbrev pub set_ledger : Thread → Ledger → Thread
+set_ledger t ledger = record t { ledger = ledger }
+
+abbrev pub set_error : Thread → Option Obj → Thread
+set_error t error = record t { error = error }
+
+abbrev pub set_remembered : Thread → List Remembered → Thread
+set_remembered t remembered = record t { remembered = remembered }
+
+abbrev pub set_ensured : Thread → ℕ → Thread
+set_ensured t ensured = record t { ensured = ensured }
+
+abbrev pub set_taken : Thread → ℕ → Thread
+set_taken t taken = record t { taken = taken }
+
+abbrev pub set_course : Thread → Course → Thread
+set_course t course = record t { course = course }
+
+abbrev pub set_instances : Shared → List Instance → Shared
+set_instances s instances = record s { instances = instances }
+
+abbrev pub set_views : Shared → List Info → Shared
+set_views s views = record s { views = views }
+
+abbrev pub set_places : Shared → List (List Spot) → Shared
+set_places s places = record s { places = places }
+
+abbrev pub set_begun : Shared → ℕ → Shared
+set_begun s begun = record s { begun = begun }
+
+abbrev pub set_failed : Shared → Bool → Shared
+set_failed s failed = record s { failed = failed }
+
+abbrev pub set_lock : Shared → Bool → Shared
+set_lock s lock = record s { lock = lock }
+
+abbrev pub with_frames : List Frame → CState → CState
+with_frames frames c = with_thread c (set_frames c.thread frames)
+
+abbrev pub with_ledger : Ledger → CState → CState
+with_ledger ledger c = with_thread c (set_ledger c.thread ledger)
+
+abbrev pub with_error : Option Obj → CState → CState
+with_error error c = with_thread c (set_error c.thread error)
+
+abbrev pub with_remembered : List Remembered → CState → CState
+with_remembered remembered c = with_thread c (set_remembered c.thread remembered)
+
+abbrev pub with_ensured : ℕ → CState → CState
+with_ensured ensured c = with_thread c (set_ensured c.thread ensured)
+
+abbrev pub with_taken : ℕ → CState → CState
+with_taken taken c = with_thread c (set_taken c.thread taken)
+
+abbrev pub with_course : Course → CState → CState
+with_course course c = with_thread c (set_course c.thread course)
+
+abbrev pub with_instances : List Instance → CState → CState
+with_instances instances c = with_shared c (set_instances c.shared instances)
+
+abbrev pub with_views : List Info → CState → CState
+with_views views c = with_shared c (set_views c.shared views)
+
+abbrev pub with_places : List (List Spot) → CState → CState
+with_places places c = with_shared c (set_places c.shared places)
+
+abbrev pub with_lock : Bool → CState → CState
+with_lock lock c = with_shared c (set_lock c.shared lock)
+
+-- the state with its newest frame changed
+abbrev pub change_first : (Frame → Frame) → List Frame → List Frame
+change_first change [] = []
+change_first change (f ∷ fs) = change f ∷ fs
+
+abbrev pub in_frame : (Frame → Frame) → CState → CState
+in_frame change c = with_frames (change_first change c.thread.frames) c
+
+-- ---- variables
+
+-- the first cell of that name
+abbrev pub lookup : List Cell → Variable → Option Cell
+lookup [] x = None
+lookup (c ∷ cs) x = if same_variable c.variable x then Some c else lookup cs x
+
+-- a variable that isn't there is left out: the statements test that it is there
+abbrev pub put : List Cell → Variable → Value → List Cell
+put [] x v = []
+put (c ∷ cs) x v = if same_variable c.variable x then record c { value = converted c.kind v } ∷ cs else c ∷ put cs x v
+
+abbrev pub put_in : Variable → Value → Frame → Frame
+put_in x v f = record f { variables = put f.variables x v }
+
+abbrev pub set_variable : Variable → Value → CState → CState
+set_variable x v c = in_frame (put_in x v) c
+
+-- ---- places
+
+-- the places that are stored into once: `cyc_m`, `cyc_d`, `cyc_b`, `cyc_c_J`
+abbrev pub is_constant : Place → Bool
+is_constant place.Module = true
+is_constant place.Dictionary = true
+is_constant place.Builtins = true
+is_constant (place.Constant j) = true
+is_constant _ = false
+
+-- a module variable that holds objects: it is read and stored with the lock, and lends what it holds
+abbrev pub is_module_variable : Place → Kind → Bool
+is_module_variable (place.Global j) k = has_objects k
+is_module_variable _ k = false
+
+abbrev pub spot : List Spot → Place → Option Spot
+spot [] p = None
+spot (s ∷ ss) p = if same_place s.place p then Some s else spot ss p
+
+abbrev pub put_spot : List Spot → Place → Value → List Spot
+put_spot [] p v = []
+put_spot (s ∷ ss) p v =
+    if same_place s.place p then record s { value = converted s.kind v; stored = true } ∷ ss else s ∷ put_spot ss p v
+
+-- the places of a file, by its number
+abbrev pub spots_at : CState → ℕ → List Spot
+spots_at c k = slice_index_or c.shared.places k []
+
+abbrev pub set_spot : ℕ → Place → Value → CState → CState
+set_spot k p v c = with_places (slice_set c.shared.places k (put_spot (spots_at c k) p v)) c
+
+-- ---- instances
+
+abbrev pub if_alive : Instance → Option Instance
+if_alive i = if i.alive then Some i else None
+
+abbrev pub still_there : Option Instance → Option Instance
+still_there None = None
+still_there (Some i) = if_alive i
+
+-- an instance that is made and wasn't freed
+abbrev pub instance_at : CState → ℕ → Option Instance
+instance_at c k = still_there (slice_get c.shared.instances k)
+
+abbrev pub instance_of : CState → Value → Option Instance
+instance_of c (value.Object (obj.Inst k)) = instance_at c k
+instance_of c _ = None
+
+abbrev pub set_instance : ℕ → Instance → CState → CState
+set_instance k i c = with_instances (slice_set c.shared.instances k i) c
+
+-- what an instance holds of the struct of a class
+abbrev pub part_of : List Part → Numbered → Option (List (Kind × Value))
+part_of [] class = None
+part_of (p ∷ ps) class = if same_number p.class class then Some p.fields else part_of ps class
+
+abbrev pub put_field : List (Kind × Value) → ℕ → Value → List (Kind × Value)
+put_field [] j v = []
+put_field ((k, old) ∷ fs) zero v = (k, converted k v) ∷ fs
+put_field (f ∷ fs) (suc j) v = f ∷ put_field fs j v
+
+abbrev pub put_part : List Part → Numbered → ℕ → Value → List Part
+put_part [] class j v = []
+put_part (p ∷ ps) class j v =
+    if same_number p.class class then record p { fields = put_field p.fields j v } ∷ ps else p ∷ put_part ps class j v
+
+abbrev pub stored_in : Instance → Numbered → ℕ → Value → Instance
+stored_in i class j v = record i { parts = put_part i.parts class j v }
+
+abbrev pub first_field : CType → Kind × Value
+first_field t = (kind_of t, zero_of (kind_of t))
+
+abbrev pub parts_then : Numbered → Option (Base × List CType) → (Numbered → List Part) → List Part
+parts_then class None more = []
+parts_then class (Some (base.Root, fields)) more = record { class = class; fields = map first_field fields } ∷ []
+parts_then class (Some (base.Class b, fields)) more = record { class = class; fields = map first_field fields } ∷ more b
+
+-- what an instance of a struct starts with: its own fields, then those of the structs that it begins with, at most n
+abbrev pub first_parts : List CFile → ℕ → Numbered → List Part
+first_parts files zero class = []
+first_parts files (suc n) class = parts_then class (struct_of files class) (first_parts files n)
+
+abbrev pub parts_by : List CFile → Option TypeObject → List Part
+parts_by files None = []
+parts_by files (Some t) = first_parts files (item_count files) t.size
+
+-- an instance as it is made (Python/C API manual, `PyType_GenericAlloc`)
+abbrev pub new_instance : List CFile → ItemPlace → Allocation → Instance
+new_instance files t allocation = record {
+  class = t;
+  allocation = allocation;
+  alive = true;
+  table = None;
+  parts = parts_by files (type_at files t);
+}
+
+-- ---- held
+
+abbrev pub value_is : Value → Obj → Bool
+value_is v o = has (objects_in v) o
+
+abbrev pub constant_holds : Obj → Spot → Bool
+constant_holds o s = is_constant s.place && value_is s.value o
+
+-- whether a constant place of a file holds the object
+abbrev pub in_constants : List (List Spot) → Obj → Bool
+in_constants [] o = false
+in_constants (ss ∷ sss) o = list_any (constant_holds o) ss || in_constants sss o
+
+-- held by the newest frame: owned by it, lent to it, in a constant place, or permanent
+abbrev pub held : CState → Obj → Bool
+held c o = has (owned c.thread.ledger) o || (has (lent c.thread.ledger) o || (in_constants c.shared.places o || is_permanent o))
+
+abbrev pub all_held : CState → List Obj → Bool
+all_held c [] = true
+all_held c (o ∷ os) = held c o && all_held c os
+
+-- ---- linking
+
+abbrev pub first_spots : List CItem → List Spot
+first_spots [] = []
+first_spots (item.Static t p ∷ is) = record { place = p; kind = kind_of t; value = zero_of (kind_of t); stored = false } ∷ first_spots is
+first_spots (i ∷ is) = first_spots is
+
+abbrev pub first_places : List CFile → List (List Spot)
+first_places [] = []
+first_places (f ∷ fs) = first_spots f.items ∷ first_places fs
+
+abbrev pub first_shared : List CFile → Shared
+first_shared files = record {
+  instances = [];
+  views = [];
+  places = first_places files;
+  begun = 0;
+  failed = false;
+  lock = true;
+}
+
+abbrev pub first_thread : Thread
+first_thread = record {
+  frames = [];
+  ledger = empty_ledger;
+  error = None;
+  remembered = [];
+  ensured = 0;
+  taken = 0;
+  course = course.Goes;
+}
+
+-- before the first initialisation
+abbrev pub linked : Bool → List CFile → CState
+linked strict files = record { shared = first_shared files; thread = first_thread; strict = strict }
