@@ -3,7 +3,7 @@ use Rattle.std.specs.Prelude.{ℕ, List, [], ◌∷◌, Option, Some, None, unwr
 use Rattle.std.specs.List.{position, range_with_len}
 use Rattle.std.specs.Str.{bytes_eq}
 use Rattle.thin_state.specs.declared.BinaryOp.TheVariants as op
-use Rattle.thin_state.specs.declared.Exception.TheVariants as exception
+use Rattle.c_token.specs.declared.exception.Exception.TheVariants as exception
 use Rattle.thin_state.specs.declared.CType.TheVariants as type
 use Rattle.thin_state.specs.declared.Variable.{Variable}
 use Rattle.thin_state.specs.declared.Variable.TheVariants as variable

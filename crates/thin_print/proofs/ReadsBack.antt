@@ -11,8 +11,8 @@ use Rattle.thin_state.proofs.Unique.{operand_value, type_spelling_first, paramet
 use Rattle.c_token.proofs.Tokens.{Stops, StopsSign, stops_sign, begun, word_tokens, star_tokens, name_append, name_words, decimal_name, number_tokens, join_tokens, string_tokens}
 use Rattle.thin_print.specs.CText.{fixed_text, listed, type_text, type_before, variable_text, place_text, numbered, function_text, row_text, exception_text, byte_text, string_text, value_text, comparison_text, target_text, destination_text, arguments_text, goto_text, statement_text, line_text, initial_text, declaration_text, parameter_text, or_void, head_text, body_text, method_text, item_text, file_text}
 use Rattle.thin_state.specs.declared.BinaryOp.TheVariants as op
-use Rattle.thin_state.specs.declared.Exception.{Exception}
-use Rattle.thin_state.specs.declared.Exception.TheVariants as exception
+use Rattle.c_token.specs.declared.exception.Exception.{Exception}
+use Rattle.c_token.specs.declared.exception.Exception.TheVariants as exception
 use Rattle.thin_state.specs.declared.CType.{CType}
 use Rattle.thin_state.specs.declared.CType.TheVariants as type
 use Rattle.thin_state.specs.declared.Variable.{Variable}

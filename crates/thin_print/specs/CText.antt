@@ -2,8 +2,8 @@
 use Rattle.std.specs.Prelude.{ℕ, ◌+◌, ◌/◌, ◌%◌, ◌||◌, List, [], ◌∷◌, ◌++◌, Option, Some, None, nat_lt, nat_eq, if◌then◌else◌, codes, decimal}
 use Rattle.std.specs.List.{flat_map}
 use Rattle.thin_state.specs.declared.BinaryOp.TheVariants as op
-use Rattle.thin_state.specs.declared.Exception.{Exception}
-use Rattle.thin_state.specs.declared.Exception.TheVariants as exception
+use Rattle.c_token.specs.declared.exception.Exception.{Exception}
+use Rattle.c_token.specs.declared.exception.Exception.TheVariants as exception
 use Rattle.thin_state.specs.declared.CType.{CType}
 use Rattle.thin_state.specs.declared.CType.TheVariants as type
 use Rattle.thin_state.specs.declared.Variable.{Variable}
