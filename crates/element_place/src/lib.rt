@@ -3,9 +3,9 @@
 
 mod format;
 mod place;
-mod window;
 #[cfg(test)]
 mod tests;
+mod window;
 
 pub use format::matches;
-//pub use place::is_element_place;
+pub use place::{is_element_place, tested_places_are_those_of_elements};

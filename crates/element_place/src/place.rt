@@ -1,7 +1,8 @@
 //! Which byte places are those of elements.
-ghost use Rattle.std.specs.Prelude.{◌≡◌, ◌≤◌, ◌<◌, ◌+◌, ◌*◌, ◌↔◌, ℕ, pos, nat_abs, unsigned_abs, ◌-ℤ◌, ◌*ℤ◌, ◌<ℤ◌, true, IsTrue};
+ghost use Rattle.std.specs.Prelude.{◌≡◌, ◌≤◌, ◌<◌, ◌+◌, ◌*◌, ◌↔◌, ℕ, ℤ, pos, nat_abs, unsigned_abs, ◌-ℤ◌, ◌*ℤ◌, ◌<ℤ◌, true, IsTrue};
+ghost use Rattle.api_model.specs.declared.info.Info.{Info as InfoValue};
 ghost use Rattle.api_model.specs.Answers.{is_view, reach};
-ghost use Rattle.element_place.specs.Places.{IsElementPlace, Reaches, is_element_place};
+ghost use Rattle.element_place.specs.Places.{IsElementPlace, Reaches, is_element_place, reaches};
 ghost use Rattle.element_place.specs.Windows.{IsBetween, IsFound, IsWithin};
 
 use crate::window::{Indexes, Window, indexes_along, window_of};
@@ -70,3 +71,42 @@ fn reaches(lengths: &[i64], strides: &[i64], place: i128) -> bool
         (None, None) => place == 0,
     }
 }
+
+// No dimensions reach further than the products of their lengths and strides.
+fn is_near(place: i128) -> bool
+    ensures { IsTrue result ↔ (unsigned_abs place ≤ 1152921504606846976) }
+{
+    place.unsigned_abs() <= 1_152_921_504_606_846_976
+}
+
+#[tactic(auto, using(crate::proofs::Tests::within))]
+fn reaches_from_anywhere(lengths: &[i64], strides: &[i64], place: i128) -> bool
+    requires { reach lengths.now strides.now ≤ 1152921504606846976 }
+    ensures { IsTrue result ↔ Reaches lengths.now strides.now place }
+{
+    is_near(place) && reaches(lengths, strides, place)
+}
+
+// The same, as a test.
+fn reaches_as_tested(lengths: &[i64], strides: &[i64], place: i128) -> bool
+    requires { reach lengths.now strides.now ≤ 1152921504606846976 }
+    ensures { result ≡ reaches lengths.now strides.now place }
+{
+    reaches_from_anywhere(lengths, strides, place)
+}
+
+/// Whether an element of a view stands at a byte place: whether there are indexes, one for each dimension, that lead there.
+/// An indirect view has none. Dimensions are tried in the order given, and of each only the indexes from which the
+/// later ones can still reach the place: one where no stride is less than the reach of the later dimensions, as in C order.
+/// Where the first strides are small, as in Fortran order, it can be as many as the first dimensions have elements.
+pub fn is_element_place(info: &Info, place: i128) -> bool
+    requires { is_view info.now ≡ true }
+    ensures { result ≡ is_element_place info.now place }
+{
+    !info.indirect && reaches_as_tested(info.shape.as_slice(), info.strides.as_slice(), place)
+}
+
+/// A place passes the test exactly where an element stands there. A law; it does nothing.
+pub fn tested_places_are_those_of_elements()
+    ensures { (info : InfoValue) (place : ℤ) → IsTrue (is_element_place info place) ↔ IsElementPlace info place }
+{}

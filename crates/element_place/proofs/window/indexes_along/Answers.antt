@@ -9,6 +9,6 @@ returns-then-stride-lt0 c =
     λ i h.
     let back : c.args.stride <ℤ pos 0 = (let f = c.if-stride-lt0.true in grind (arith, ints, to_z-of_z)) in
     let product : pos i *ℤ c.args.stride ≡ neg_ℤ (pos (i * c.unsigned_abs-step.result)) =
-        product-back c.args.stride i back ∙ ap (λ n. neg_ℤ (pos (i * n))) (ap nat_abs (sym (to_z-of_z w64 c.args.stride c.ranges.stride)) ∙ sym c.unsigned_abs-step.ensures.value) in
+    product-back c.args.stride i back ∙ ap (λ n. neg_ℤ (pos (i * n))) (ap nat_abs (sym (to_z-of_z w64 c.args.stride c.ranges.stride)) ∙ sym c.unsigned_abs-step.ensures.value) in
     let low = h.0 in let high = h.1 in let p = c.requires.place in
     (i, omega arith, c.indexes_by-then-stride-lt0.ensures i (omega (arith, ints), omega (arith, ints)), refl)
