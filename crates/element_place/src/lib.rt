@@ -8,4 +8,4 @@ mod tests;
 mod window;
 
 pub use format::matches;
-pub use place::{is_element_place, tested_places_are_those_of_elements};
+pub use place::{is_element, is_element_place, tested_places_are_those_of_elements};

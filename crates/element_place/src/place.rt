@@ -2,11 +2,13 @@
 ghost use Rattle.std.specs.Prelude.{◌≡◌, ◌≤◌, ◌<◌, ◌+◌, ◌*◌, ◌↔◌, ℕ, ℤ, pos, nat_abs, unsigned_abs, ◌-ℤ◌, ◌*ℤ◌, ◌<ℤ◌, true, IsTrue};
 ghost use Rattle.api_model.specs.declared.info.Info.{Info as InfoValue};
 ghost use Rattle.api_model.specs.Answers.{is_view, reach};
-ghost use Rattle.element_place.specs.Places.{IsElementPlace, Reaches, is_element_place, reaches};
+ghost use Rattle.element_place.specs.Places.{IsElementPlace, Reaches, is_element, is_element_place, reaches};
 ghost use Rattle.element_place.specs.Windows.{IsBetween, IsFound, IsWithin};
 
+use crate::format::matches;
 use crate::window::{Indexes, Window, indexes_along, window_of};
 use api_model::Info;
+use cy_num::CNum;
 
 // The indexes of a dimension that may lead from a place into the window.
 fn indexes_of(length: i64, stride: i64, rest: Window, place: i128) -> Indexes
@@ -104,6 +106,16 @@ pub fn is_element_place(info: &Info, place: i128) -> bool
     ensures { result ≡ is_element_place info.now place }
 {
     !info.indirect && reaches_as_tested(info.shape.as_slice(), info.strides.as_slice(), place)
+}
+
+/// Whether an element of a type stands at a byte place.
+pub fn is_element(info: &Info, element: CNum, place: i128) -> bool
+    requires { is_view info.now ≡ true }
+    ensures { result ≡ is_element info.now element place }
+{
+    !info.indirect
+        && (matches(info, element)
+            && reaches_as_tested(info.shape.as_slice(), info.strides.as_slice(), place))
 }
 
 /// A place passes the test exactly where an element stands there. A law; it does nothing.

@@ -1,4 +1,4 @@
-use crate::{is_element_place, matches, tested_places_are_those_of_elements};
+use crate::{is_element, is_element_place, matches, tested_places_are_those_of_elements};
 use api_model::{Info, is_view};
 use cy_base::OutOfMemory;
 use cy_num::CNum;
@@ -76,6 +76,9 @@ fn places_in_a_large_view(rt: HostRuntime) -> Result<(), Fail> {
 fn indirect_views(rt: HostRuntime) -> Result<(), Fail> {
     let mut info = buffer(rt.alloc(), None, &[1], &[1])?;
     assert_place(&rt, &info, 0, true);
+    assert!(rt; is_element(&info, CNum::U8, 0));
+    assert!(rt; !is_element(&info, CNum::I8, 0));
+    assert!(rt; !is_element(&info, CNum::U8, 1));
     info.indirect = true;
     assert_place(&rt, &info, 0, false);
     tested_places_are_those_of_elements();
