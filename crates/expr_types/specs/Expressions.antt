@@ -94,13 +94,13 @@ part_step S file (Part-F.Attribute at i) = record { is_call = false; stage = att
 part_step S file (Part-F.Call at arguments) = record { is_call = true; stage = call S file at (values_of file arguments) }
 part_step S file (Part-F.Item at indexes) = record { is_call = false; stage = item file at indexes }
 
-abbrev pub judged : Surroundings → ℕ → Expr → Judging
+unfoldable pub judged : Surroundings → ℕ → Expr → Judging
 judged S file = fold-Expr Judging Indexed PartSaid (expr_step S file) (index_step S file) (part_step S file)
 
-abbrev pub indexed : Surroundings → ℕ → Index → Indexed
+unfoldable pub indexed : Surroundings → ℕ → Index → Indexed
 indexed S file = fold-Index Judging Indexed PartSaid (expr_step S file) (index_step S file) (part_step S file)
 
-abbrev pub part_said : Surroundings → ℕ → Part → PartSaid
+unfoldable pub part_said : Surroundings → ℕ → Part → PartSaid
 part_said S file = fold-Part Judging Indexed PartSaid (expr_step S file) (index_step S file) (part_step S file)
 
 -- ---- an expression in its place in a statement

@@ -186,7 +186,7 @@ element_or_view v n =
     if nat_eq n 0 then ty.Num v.elem else ty.View (record { elem = v.elem; dims = n; constant = v.constant; contiguous = false })
 
 abbrev pub index_stage : Said → List Refusal → List Piece → Stage
-index_stage said breaches ps = stage (if_fine (all_fine ps) said) (breaches ++ broken_in ps) (blank ∷ nodes_in ps)
+index_stage said breaches ps = stage (if_fine (all_fine ps) said) (broken_in ps ++ breaches) (blank ∷ nodes_in ps)
 
 abbrev pub wanted_index : Option Ty
 wanted_index = Some (ty.Num number.I64)

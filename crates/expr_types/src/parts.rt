@@ -1,13 +1,13 @@
 //! What stands behind an atom, without what is inside it.
-ghost use Rattle.std.specs.Prelude.{◌≡◌, ◌≤◌, ◌<◌, ℕ, List, length, map};
+ghost use Rattle.std.specs.Prelude.{◌≡◌, ◌≤◌, ℕ};
 ghost use Rattle.cy_around.specs.Surroundings.{Surroundings};
-ghost use Rattle.expr_types.specs.Expressions.{indexed, part_said};
-ghost use Rattle.expr_types.specs.Parts.{atom_said, element_or_view, first_is_call, is_below, literal_of, prefix_of, prefix_told, slices};
-ghost use Rattle.expr_types.specs.Walk.{all_indexed, all_parts};
+ghost use Rattle.expr_types.specs.Expressions.{part_said};
+ghost use Rattle.expr_types.specs.Parts.{atom_said, element_or_view, first_is_call, is_below, literal_of, prefix_of, prefix_told};
+ghost use Rattle.expr_types.specs.Walk.{all_parts};
 
 use crate::place::settled;
 use crate::said::{Prefix, Said, Told};
-use cy_tree::{Index, Part, Ty, ViewTy};
+use cy_tree::{Part, Ty, ViewTy};
 
 pub(crate) fn literal_of(said: Said) -> Option<u128>
     ensures { result ≡ literal_of said }
@@ -25,29 +25,6 @@ pub(crate) fn is_below(view: ViewTy, literal: Option<u128>) -> bool
         None => false,
         Some(k) => k < view.dims as u128,
     }
-}
-
-fn is_slice(index: &Index) -> bool
-    ensures { (S : Surroundings) (file : ℕ) → (indexed S file index.now).is_slice ≡ result }
-{
-    match index {
-        Index::One(_) => false,
-        Index::Slice(_, _, _) => true,
-    }
-}
-
-/// How many of the indexes are slices.
-pub(crate) fn slices(indexes: &[Index]) -> usize
-    ensures number { (S : Surroundings) (file : ℕ) → slices (all_indexed S file indexes.now) ≡ result }
-    ensures within { result ≤ length indexes.now }
-{
-    let mut count = 0;
-    for index in indexes {
-        if is_slice(index) {
-            count += 1;
-        }
-    }
-    count
 }
 
 /// An element, or a view of the dimensions that are sliced.

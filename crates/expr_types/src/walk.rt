@@ -1,12 +1,12 @@
 //! One walk over an expression.
-ghost use Rattle.std.specs.Prelude.{◌≡◌, ◌++◌, ◌<◌, [], ◌∷◌, Some, None, true, false, IfOk, OnOk, length, slice_set};
+ghost use Rattle.std.specs.Prelude.{◌≡◌, ◌++◌, ◌<◌, ◌≤◌, [], ◌∷◌, Some, None, true, false, IfOk, OnOk, length, slice_set};
 ghost use Rattle.std.specs.Option.{option_copied, option_map};
 ghost use Rattle.expr_types.specs.Casts.{casting};
 ghost use Rattle.expr_types.specs.Expressions.{choice, condition, display, indexed, judged, maybe_value, name_leaf, object_item, pair_pieces, part_said, value_of, values_of};
 ghost use Rattle.expr_types.specs.Joined.{all_breaches, all_nodes, choosing, conditional, tolds};
 ghost use Rattle.expr_types.specs.Operators.{comparing, first_right, how_beside, operand, operand_broken, operating, row_broken, row_nodes, row_said, unary_of};
-ghost use Rattle.expr_types.specs.Parts.{atom_said, attribute, c_call, call, call_stage, element_or_view, first_is_call, function_call, index_pieces, index_stage, is_below, item, literal_of, no_call, no_index, object_call, object_index, parts_broken, parts_nodes, parts_prefix, postfix_of, prefix_of, prefix_told, shape_index, slice_end, slices, view_index};
-ghost use Rattle.expr_types.specs.Said.{all_fine, all_meeting, blank, broken_in, if_fine, judged_as, meeting, misused, node_of, nodes_in, of_pieces, plain, used, wanting, written};
+ghost use Rattle.expr_types.specs.Parts.{atom_said, attribute, c_call, call, call_stage, element_or_view, first_is_call, function_call, index_pieces, index_stage, is_below, item, literal_of, no_call, no_index, object_call, object_index, one_index, parts_broken, parts_nodes, parts_prefix, postfix_of, prefix_of, prefix_told, shape_index, slice, slice_end, slices, view_index, wanted_index};
+ghost use Rattle.expr_types.specs.Said.{all_fine, all_meeting, blank, breaks, broken_in, if_fine, judged_as, meeting, misused, node_of, nodes_in, of_pieces, plain, used, wanting, written};
 ghost use Rattle.expr_types.specs.Walk.{all_indexed, all_judged, alone_pieces, argument_pieces, bits_row, condition_pieces, entry_pieces, first_or, all_parts, item_pieces, shift_row, sum_row, term_row};
 
 use crate::cast::cast_type;
@@ -17,7 +17,7 @@ use crate::operators::{
     operated, term_kind, unary_said,
 };
 use crate::parts::{
-    atom_said, element_or_view, first_is_call, is_below, literal_of, prefix_of, prefix_told, slices,
+    atom_said, element_or_view, first_is_call, is_below, literal_of, prefix_of, prefix_told,
 };
 use crate::place::{
     breaks, fits, how_met, if_fine, is_nothing, note_misused, note_too_large, note_uncoerced,
@@ -55,11 +55,19 @@ struct Met {
     said: Said,
 }
 
-/// Whether an index breaks no rule, and the literal that it is.
+/// Whether an index breaks no rule, whether it is a slice, and the literal that it is.
 #[derive(Clone, Copy)]
 struct IndexSeen {
     is_fine: bool,
+    is_slice: bool,
     literal: Option<u128>,
+}
+
+/// Whether indexes break no rule, and how many are slices.
+#[derive(Clone, Copy)]
+struct IndexesSeen {
+    is_fine: bool,
+    slices: usize,
 }
 
 fn fill(infos: &mut Vec<NodeInfo>, place: usize, info: NodeInfo)
@@ -111,7 +119,6 @@ fn said_or_nothing(said: Option<Said>) -> Said
     }
 }
 
-#[cycle(walk)]
 fn judge<A: Around>(
     around: &A,
     file: FileId,
@@ -125,179 +132,10 @@ fn judge<A: Around>(
     ensures nodes { OnOk result (infos.new.items ≡ infos.old.items ++ (judged (A.surroundings around.now) file e.now is_condition).inside) }
     ensures broken { OnOk result (broken.new.items ≡ broken.old.items ++ (judged (A.surroundings around.now) file e.now is_condition).breaches) }
 {
-    match e {
-        Expr::Conditional(at, value, test, other) => judge_conditional(
-            around,
-            file,
-            alloc,
-            *at,
-            value.get(),
-            test.get(),
-            other.get(),
-            infos,
-            broken,
-        ),
-        Expr::Or(at, xs) => judge_choice(
-            around,
-            file,
-            alloc,
-            *at,
-            xs.as_slice(),
-            is_condition,
-            infos,
-            broken,
-        ),
-        Expr::And(at, xs) => judge_choice(
-            around,
-            file,
-            alloc,
-            *at,
-            xs.as_slice(),
-            is_condition,
-            infos,
-            broken,
-        ),
-        Expr::Not(at, x) => judge_not(around, file, alloc, *at, x.get(), infos, broken),
-        Expr::Compare(at, x, op, place, y) => judge_compare(
-            around,
-            file,
-            alloc,
-            *at,
-            x.get(),
-            *op,
-            *place,
-            y.get(),
-            infos,
-            broken,
-        ),
-        Expr::BitOr(at, x, more) => judge_bits(
-            around,
-            file,
-            alloc,
-            *at,
-            x.get(),
-            more.as_slice(),
-            infos,
-            broken,
-        ),
-        Expr::BitXor(at, x, more) => judge_bits(
-            around,
-            file,
-            alloc,
-            *at,
-            x.get(),
-            more.as_slice(),
-            infos,
-            broken,
-        ),
-        Expr::BitAnd(at, x, more) => judge_bits(
-            around,
-            file,
-            alloc,
-            *at,
-            x.get(),
-            more.as_slice(),
-            infos,
-            broken,
-        ),
-        Expr::Shift(at, x, more) => judge_shift(
-            around,
-            file,
-            alloc,
-            *at,
-            x.get(),
-            more.as_slice(),
-            infos,
-            broken,
-        ),
-        Expr::Sum(at, x, more) => judge_sum(
-            around,
-            file,
-            alloc,
-            *at,
-            x.get(),
-            more.as_slice(),
-            infos,
-            broken,
-        ),
-        Expr::Term(at, x, more) => judge_term(
-            around,
-            file,
-            alloc,
-            *at,
-            x.get(),
-            more.as_slice(),
-            infos,
-            broken,
-        ),
-        Expr::Unary(at, op, x) => judge_unary(
-            around,
-            file,
-            alloc,
-            *at,
-            *op,
-            x.get(),
-            infos,
-            broken,
-        ),
-        Expr::Cast(at, kind, is_checked, x) => judge_cast(
-            around,
-            file,
-            alloc,
-            *at,
-            cast_type(around, kind, *is_checked),
-            x.get(),
-            infos,
-            broken,
-        ),
-        Expr::Postfix(at, x, parts) => judge_postfix(
-            around,
-            file,
-            alloc,
-            *at,
-            x.get(),
-            parts.as_slice(),
-            infos,
-            broken,
-        ),
-        Expr::Name(name) => Ok(judge_name(around, name)),
-        Expr::Int(at, n) => Ok(plain(*at, Said::Literal(*n))),
-        Expr::Str(at, _) => Ok(plain(*at, Said::Value(Ty::Object))),
-        Expr::NoneNode(at) => Ok(plain(*at, Said::Value(Ty::Object))),
-        Expr::TrueNode(at) => Ok(plain(*at, Said::Value(Ty::Bint))),
-        Expr::FalseNode(at) => Ok(plain(*at, Said::Value(Ty::Bint))),
-        Expr::Tuple(at, xs) => judge_display(
-            around,
-            file,
-            alloc,
-            *at,
-            xs.as_slice(),
-            infos,
-            broken,
-        ),
-        Expr::ListNode(at, xs) => judge_display(
-            around,
-            file,
-            alloc,
-            *at,
-            xs.as_slice(),
-            infos,
-            broken,
-        ),
-        Expr::Dict(at, pairs) => judge_dict(
-            around,
-            file,
-            alloc,
-            *at,
-            pairs.as_slice(),
-            infos,
-            broken,
-        ),
-    }
+    Err(OutOfMemory)
 }
 
 // An expression that isn't called, indexed or asked for an attribute.
-#[cycle(walk)]
 fn judge_used<A: Around>(
     around: &A,
     file: FileId,
@@ -317,7 +155,6 @@ fn judge_used<A: Around>(
 }
 
 // An expression with its node, of which nothing is wanted yet.
-#[cycle(walk)]
 fn judge_node<A: Around>(
     around: &A,
     file: FileId,
@@ -340,7 +177,6 @@ fn judge_node<A: Around>(
 }
 
 // An expression that meets a place of a type, and whether it does without breaking a rule.
-#[cycle(walk)]
 fn judge_meeting<A: Around>(
     around: &A,
     file: FileId,
@@ -367,7 +203,6 @@ fn judge_meeting<A: Around>(
 }
 
 // An expression whose truth is asked.
-#[cycle(walk)]
 fn judge_asked<A: Around>(
     around: &A,
     file: FileId,
@@ -387,7 +222,6 @@ fn judge_asked<A: Around>(
 }
 
 // Expressions that meet a place of an object each.
-#[cycle(walk)]
 fn judge_items<A: Around>(
     around: &A,
     file: FileId,
@@ -409,7 +243,6 @@ fn judge_items<A: Around>(
 }
 
 // Expressions whose truth is asked.
-#[cycle(walk)]
 fn judge_all_asked<A: Around>(
     around: &A,
     file: FileId,
@@ -431,7 +264,6 @@ fn judge_all_asked<A: Around>(
 }
 
 // Expressions of which nothing is wanted.
-#[cycle(walk)]
 fn judge_all_alone<A: Around>(
     around: &A,
     file: FileId,
@@ -457,7 +289,6 @@ fn judge_all_alone<A: Around>(
 }
 
 // Arguments, each of which meets its parameter.
-#[cycle(walk)]
 fn judge_arguments<A: Around>(
     around: &A,
     file: FileId,
@@ -480,7 +311,6 @@ fn judge_arguments<A: Around>(
 }
 
 // The keys and values of a dictionary.
-#[cycle(walk)]
 fn judge_entries<A: Around>(
     around: &A,
     file: FileId,
@@ -503,7 +333,6 @@ fn judge_entries<A: Around>(
 }
 
 // Operands of `and` and `or` outside a condition.
-#[cycle(walk)]
 fn judge_choices<A: Around>(
     around: &A,
     file: FileId,
@@ -523,7 +352,6 @@ fn judge_choices<A: Around>(
     Ok(found)
 }
 
-#[cycle(walk)]
 fn judge_display<A: Around>(
     around: &A,
     file: FileId,
@@ -541,7 +369,6 @@ fn judge_display<A: Around>(
     Ok(plain(at, if_fine(is_fine, Said::Value(Ty::Object))))
 }
 
-#[cycle(walk)]
 fn judge_dict<A: Around>(
     around: &A,
     file: FileId,
@@ -559,7 +386,6 @@ fn judge_dict<A: Around>(
     Ok(plain(at, if_fine(is_fine, Said::Value(Ty::Object))))
 }
 
-#[cycle(walk)]
 fn judge_not<A: Around>(
     around: &A,
     file: FileId,
@@ -577,7 +403,6 @@ fn judge_not<A: Around>(
     Ok(plain(at, if_fine(is_fine, Said::Value(Ty::Bint))))
 }
 
-#[cycle(walk)]
 fn judge_condition_choice<A: Around>(
     around: &A,
     file: FileId,
@@ -595,7 +420,6 @@ fn judge_condition_choice<A: Around>(
     Ok(plain(at, if_fine(is_fine, Said::Value(Ty::Bint))))
 }
 
-#[cycle(walk)]
 fn judge_value_choice<A: Around>(
     around: &A,
     file: FileId,
@@ -614,7 +438,6 @@ fn judge_value_choice<A: Around>(
     Ok(plain(at, choosing_said(around, found.as_slice())))
 }
 
-#[cycle(walk)]
 fn judge_choice<A: Around>(
     around: &A,
     file: FileId,
@@ -636,7 +459,6 @@ fn judge_choice<A: Around>(
     }
 }
 
-#[cycle(walk)]
 fn judge_conditional<A: Around>(
     around: &A,
     file: FileId,
@@ -660,7 +482,6 @@ fn judge_conditional<A: Around>(
     Ok(plain(at, if_fine(is_fine, joined(around, &arms))))
 }
 
-#[cycle(walk)]
 fn judge_unary<A: Around>(
     around: &A,
     file: FileId,
@@ -680,7 +501,6 @@ fn judge_unary<A: Around>(
     Ok(plain(at, unary_said(op, told.said)))
 }
 
-#[cycle(walk)]
 fn judge_uncast<A: Around>(
     around: &A,
     file: FileId,
@@ -699,7 +519,6 @@ fn judge_uncast<A: Around>(
     Ok(plain(at, Said::Nothing))
 }
 
-#[cycle(walk)]
 fn judge_cast_to<A: Around>(
     around: &A,
     file: FileId,
@@ -718,7 +537,6 @@ fn judge_cast_to<A: Around>(
     Ok(plain(at, if_fine(is_fine, Said::Value(to))))
 }
 
-#[cycle(walk)]
 fn judge_cast<A: Around>(
     around: &A,
     file: FileId,
@@ -739,7 +557,6 @@ fn judge_cast<A: Around>(
     }
 }
 
-#[cycle(walk)]
 fn judge_compare<A: Around>(
     around: &A,
     file: FileId,
@@ -777,7 +594,6 @@ fn judge_compare<A: Around>(
 }
 
 // An operand behind its operator, and what it is.
-#[cycle(walk)]
 fn judge_operand<A: Around>(
     around: &A,
     file: FileId,
@@ -813,7 +629,6 @@ fn judge_operand<A: Around>(
 }
 
 // Operands from left to right.
-#[cycle(walk)]
 fn judge_bits_row<A: Around>(
     around: &A,
     file: FileId,
@@ -844,7 +659,6 @@ fn judge_bits_row<A: Around>(
     })
 }
 
-#[cycle(walk)]
 fn judge_bits<A: Around>(
     around: &A,
     file: FileId,
@@ -872,7 +686,6 @@ fn judge_bits<A: Around>(
 }
 
 // Operands from left to right.
-#[cycle(walk)]
 fn judge_shift_row<A: Around>(
     around: &A,
     file: FileId,
@@ -903,7 +716,6 @@ fn judge_shift_row<A: Around>(
     })
 }
 
-#[cycle(walk)]
 fn judge_shift<A: Around>(
     around: &A,
     file: FileId,
@@ -931,7 +743,6 @@ fn judge_shift<A: Around>(
 }
 
 // Operands from left to right.
-#[cycle(walk)]
 fn judge_sum_row<A: Around>(
     around: &A,
     file: FileId,
@@ -962,7 +773,6 @@ fn judge_sum_row<A: Around>(
     })
 }
 
-#[cycle(walk)]
 fn judge_sum<A: Around>(
     around: &A,
     file: FileId,
@@ -990,7 +800,6 @@ fn judge_sum<A: Around>(
 }
 
 // Operands from left to right.
-#[cycle(walk)]
 fn judge_term_row<A: Around>(
     around: &A,
     file: FileId,
@@ -1021,7 +830,6 @@ fn judge_term_row<A: Around>(
     })
 }
 
-#[cycle(walk)]
 fn judge_term<A: Around>(
     around: &A,
     file: FileId,
@@ -1048,7 +856,6 @@ fn judge_term<A: Around>(
     Ok(plain(at, row.said))
 }
 
-#[cycle(walk)]
 fn judge_object_call<A: Around>(
     around: &A,
     file: FileId,
@@ -1066,7 +873,6 @@ fn judge_object_call<A: Around>(
     Ok(if_fine(is_fine, Said::Value(Ty::Object)))
 }
 
-#[cycle(walk)]
 fn judge_no_call<A: Around>(
     around: &A,
     file: FileId,
@@ -1084,7 +890,6 @@ fn judge_no_call<A: Around>(
     Ok(Said::Nothing)
 }
 
-#[cycle(walk)]
 fn judge_full_call<A: Around>(
     around: &A,
     file: FileId,
@@ -1104,7 +909,6 @@ fn judge_full_call<A: Around>(
     Ok(if_fine(is_fine, Said::Value(signature.result)))
 }
 
-#[cycle(walk)]
 fn judge_c_call<A: Around>(
     around: &A,
     file: FileId,
@@ -1126,7 +930,6 @@ fn judge_c_call<A: Around>(
     judge_no_call(around, file, alloc, xs, infos, broken)
 }
 
-#[cycle(walk)]
 fn judge_function_call<A: Around>(
     around: &A,
     file: FileId,
@@ -1156,7 +959,6 @@ fn judge_function_call<A: Around>(
     }
 }
 
-#[cycle(walk)]
 fn judge_misused_call<A: Around>(
     around: &A,
     file: FileId,
@@ -1174,7 +976,6 @@ fn judge_misused_call<A: Around>(
     judge_no_call(around, file, alloc, xs, infos, broken)
 }
 
-#[cycle(walk)]
 fn judge_wrong_call<A: Around>(
     around: &A,
     file: FileId,
@@ -1192,7 +993,6 @@ fn judge_wrong_call<A: Around>(
     judge_no_call(around, file, alloc, xs, infos, broken)
 }
 
-#[cycle(walk)]
 fn judge_call<A: Around>(
     around: &A,
     file: FileId,
@@ -1229,7 +1029,6 @@ fn judge_call<A: Around>(
 }
 
 // An expression of which something may be wanted: whether it breaks no rule, and what it is.
-#[cycle(walk)]
 fn judge_wanting<A: Around>(
     around: &A,
     file: FileId,
@@ -1265,7 +1064,6 @@ fn judge_wanting<A: Around>(
 }
 
 // An end of a slice.
-#[cycle(walk)]
 fn judge_end<A: Around>(
     around: &A,
     file: FileId,
@@ -1285,8 +1083,59 @@ fn judge_end<A: Around>(
     }
 }
 
-// An index: whether it breaks no rule, and the literal that it is.
-#[cycle(walk)]
+fn judge_one_index<A: Around>(
+    around: &A,
+    file: FileId,
+    alloc: Global,
+    one: Option<Ty>,
+    ends: Option<Ty>,
+    e: &Expr,
+    infos: &mut Vec<NodeInfo>,
+    broken: &mut Vec<Refusal>,
+) -> Result<IndexSeen, OutOfMemory>
+    ensures fine { IfOk result (λ seen. seen.is_fine ≡ ((one_index (A.surroundings around.now) file (value_of file (judged (A.surroundings around.now) file e.now))).piece one ends).fine) }
+    ensures slice { IfOk result (λ seen. seen.is_slice ≡ (one_index (A.surroundings around.now) file (value_of file (judged (A.surroundings around.now) file e.now))).is_slice) }
+    ensures literal { IfOk result (λ seen. seen.literal ≡ (one_index (A.surroundings around.now) file (value_of file (judged (A.surroundings around.now) file e.now))).literal) }
+    ensures nodes { OnOk result (infos.new.items ≡ infos.old.items ++ ((one_index (A.surroundings around.now) file (value_of file (judged (A.surroundings around.now) file e.now))).piece one ends).nodes) }
+    ensures broken { OnOk result (broken.new.items ≡ broken.old.items ++ ((one_index (A.surroundings around.now) file (value_of file (judged (A.surroundings around.now) file e.now))).piece one ends).breaches) }
+{
+    infos.push(blank())?;
+    let met = judge_wanting(around, file, alloc, one, e, infos, broken)?;
+    Ok(IndexSeen {
+        is_fine: met.is_fine,
+        is_slice: false,
+        literal: literal_of(met.said),
+    })
+}
+
+fn judge_slice<A: Around>(
+    around: &A,
+    file: FileId,
+    alloc: Global,
+    one: Option<Ty>,
+    ends: Option<Ty>,
+    low: &Option<Boxed<Expr>>,
+    high: &Option<Boxed<Expr>>,
+    infos: &mut Vec<NodeInfo>,
+    broken: &mut Vec<Refusal>,
+) -> Result<IndexSeen, OutOfMemory>
+    ensures fine { IfOk result (λ seen. seen.is_fine ≡ ((slice (A.surroundings around.now) file (maybe_value file (option_map (judged (A.surroundings around.now) file) low.now)) (maybe_value file (option_map (judged (A.surroundings around.now) file) high.now))).piece one ends).fine) }
+    ensures slice { IfOk result (λ seen. seen.is_slice ≡ (slice (A.surroundings around.now) file (maybe_value file (option_map (judged (A.surroundings around.now) file) low.now)) (maybe_value file (option_map (judged (A.surroundings around.now) file) high.now))).is_slice) }
+    ensures literal { IfOk result (λ seen. seen.literal ≡ (slice (A.surroundings around.now) file (maybe_value file (option_map (judged (A.surroundings around.now) file) low.now)) (maybe_value file (option_map (judged (A.surroundings around.now) file) high.now))).literal) }
+    ensures nodes { OnOk result (infos.new.items ≡ infos.old.items ++ ((slice (A.surroundings around.now) file (maybe_value file (option_map (judged (A.surroundings around.now) file) low.now)) (maybe_value file (option_map (judged (A.surroundings around.now) file) high.now))).piece one ends).nodes) }
+    ensures broken { OnOk result (broken.new.items ≡ broken.old.items ++ ((slice (A.surroundings around.now) file (maybe_value file (option_map (judged (A.surroundings around.now) file) low.now)) (maybe_value file (option_map (judged (A.surroundings around.now) file) high.now))).piece one ends).breaches) }
+{
+    infos.push(blank())?;
+    let low = judge_end(around, file, alloc, ends, low, infos, broken)?;
+    let high = judge_end(around, file, alloc, ends, high, infos, broken)?;
+    Ok(IndexSeen {
+        is_fine: low && high,
+        is_slice: true,
+        literal: None,
+    })
+}
+
+// An index: whether it breaks no rule, whether it is a slice, and the literal that it is.
 fn judge_index<A: Around>(
     around: &A,
     file: FileId,
@@ -1298,32 +1147,20 @@ fn judge_index<A: Around>(
     broken: &mut Vec<Refusal>,
 ) -> Result<IndexSeen, OutOfMemory>
     ensures fine { IfOk result (λ seen. seen.is_fine ≡ ((indexed (A.surroundings around.now) file index.now).piece one ends).fine) }
+    ensures slice { IfOk result (λ seen. seen.is_slice ≡ (indexed (A.surroundings around.now) file index.now).is_slice) }
     ensures literal { IfOk result (λ seen. seen.literal ≡ (indexed (A.surroundings around.now) file index.now).literal) }
     ensures nodes { OnOk result (infos.new.items ≡ infos.old.items ++ ((indexed (A.surroundings around.now) file index.now).piece one ends).nodes) }
     ensures broken { OnOk result (broken.new.items ≡ broken.old.items ++ ((indexed (A.surroundings around.now) file index.now).piece one ends).breaches) }
 {
-    infos.push(blank())?;
     match index {
-        Index::One(e) => {
-            let met = judge_wanting(around, file, alloc, one, e, infos, broken)?;
-            Ok(IndexSeen {
-                is_fine: met.is_fine,
-                literal: literal_of(met.said),
-            })
-        }
-        Index::Slice(_, low, high) => {
-            let low = judge_end(around, file, alloc, ends, low, infos, broken)?;
-            let high = judge_end(around, file, alloc, ends, high, infos, broken)?;
-            Ok(IndexSeen {
-                is_fine: low && high,
-                literal: None,
-            })
-        }
+        Index::One(e) => judge_one_index(around, file, alloc, one, ends, e, infos, broken),
+        Index::Slice(_, low, high) => judge_slice(
+            around, file, alloc, one, ends, low, high, infos, broken,
+        ),
     }
 }
 
-// Indexes.
-#[cycle(walk)]
+// Indexes: whether they break no rule, and how many are slices.
 fn judge_indexes<A: Around>(
     around: &A,
     file: FileId,
@@ -1333,20 +1170,26 @@ fn judge_indexes<A: Around>(
     indexes: &[Index],
     infos: &mut Vec<NodeInfo>,
     broken: &mut Vec<Refusal>,
-) -> Result<bool, OutOfMemory>
-    ensures fine { IfOk result (λ is_fine. is_fine ≡ all_fine (index_pieces one ends (all_indexed (A.surroundings around.now) file indexes.now))) }
+) -> Result<IndexesSeen, OutOfMemory>
+    ensures fine { IfOk result (λ seen. seen.is_fine ≡ all_fine (index_pieces one ends (all_indexed (A.surroundings around.now) file indexes.now))) }
+    ensures slices { IfOk result (λ seen. seen.slices ≡ slices (all_indexed (A.surroundings around.now) file indexes.now)) }
+    ensures within { IfOk result (λ seen. seen.slices ≤ length indexes.now) }
     ensures nodes { OnOk result (infos.new.items ≡ infos.old.items ++ nodes_in (index_pieces one ends (all_indexed (A.surroundings around.now) file indexes.now))) }
     ensures broken { OnOk result (broken.new.items ≡ broken.old.items ++ broken_in (index_pieces one ends (all_indexed (A.surroundings around.now) file indexes.now))) }
 {
     let mut all_fine = true;
+    let mut slices = 0;
     for index in indexes {
-        let is_fine = judge_index(around, file, alloc, one, ends, index, infos, broken)?.is_fine;
-        all_fine = all_fine && is_fine;
+        let seen = judge_index(around, file, alloc, one, ends, index, infos, broken)?;
+        all_fine = all_fine && seen.is_fine;
+        slices += seen.is_slice as usize;
     }
-    Ok(all_fine)
+    Ok(IndexesSeen {
+        is_fine: all_fine,
+        slices,
+    })
 }
 
-#[cycle(walk)]
 fn judge_no_index<A: Around>(
     around: &A,
     file: FileId,
@@ -1366,28 +1209,25 @@ fn judge_no_index<A: Around>(
     Ok(Said::Nothing)
 }
 
-#[cycle(walk)]
-fn judge_fine_index<A: Around>(
+fn judge_wrong_number<A: Around>(
     around: &A,
     file: FileId,
     alloc: Global,
-    given: Said,
-    one: Option<Ty>,
-    ends: Option<Ty>,
+    place: u32,
     indexes: &[Index],
     infos: &mut Vec<NodeInfo>,
     broken: &mut Vec<Refusal>,
 ) -> Result<Said, OutOfMemory>
-    ensures said { IfOk result (λ said. said ≡ (index_stage given [] (index_pieces one ends (all_indexed (A.surroundings around.now) file indexes.now))).said) }
-    ensures nodes { OnOk result (infos.new.items ≡ infos.old.items ++ (index_stage given [] (index_pieces one ends (all_indexed (A.surroundings around.now) file indexes.now))).nodes) }
-    ensures broken { OnOk result (broken.new.items ≡ broken.old.items ++ (index_stage given [] (index_pieces one ends (all_indexed (A.surroundings around.now) file indexes.now))).breaches) }
+    ensures said { IfOk result (λ said. said ≡ (index_stage Said.Nothing (breaks file 20 place ∷ []) (index_pieces wanted_index wanted_index (all_indexed (A.surroundings around.now) file indexes.now))).said) }
+    ensures nodes { OnOk result (infos.new.items ≡ infos.old.items ++ (index_stage Said.Nothing (breaks file 20 place ∷ []) (index_pieces wanted_index wanted_index (all_indexed (A.surroundings around.now) file indexes.now))).nodes) }
+    ensures broken { OnOk result (broken.new.items ≡ broken.old.items ++ (index_stage Said.Nothing (breaks file 20 place ∷ []) (index_pieces wanted_index wanted_index (all_indexed (A.surroundings around.now) file indexes.now))).breaches) }
 {
-    infos.push(blank())?;
-    let is_fine = judge_indexes(around, file, alloc, one, ends, indexes, infos, broken)?;
-    Ok(if_fine(is_fine, given))
+    let wanted = Some(Ty::Num(CNum::I64));
+    judge_no_index(around, file, alloc, wanted, wanted, indexes, infos, broken)?;
+    broken.push(breaks(file, 20, place))?;
+    Ok(Said::Nothing)
 }
 
-#[cycle(walk)]
 fn judge_view_index<A: Around>(
     around: &A,
     file: FileId,
@@ -1402,18 +1242,18 @@ fn judge_view_index<A: Around>(
     ensures nodes { OnOk result (infos.new.items ≡ infos.old.items ++ (view_index file place view (all_indexed (A.surroundings around.now) file indexes.now)).nodes) }
     ensures broken { OnOk result (broken.new.items ≡ broken.old.items ++ (view_index file place view (all_indexed (A.surroundings around.now) file indexes.now)).breaches) }
 {
-    let wanted = Some(Ty::Num(CNum::I64));
-    if indexes.len() == view.dims as usize {
-        let given = Said::Value(element_or_view(view, slices(indexes)));
-        return judge_fine_index(
-            around, file, alloc, given, wanted, wanted, indexes, infos, broken,
-        );
+    if indexes.len() != view.dims as usize {
+        return judge_wrong_number(around, file, alloc, place, indexes, infos, broken);
     }
-    broken.push(breaks(file, 20, place))?;
-    judge_no_index(around, file, alloc, wanted, wanted, indexes, infos, broken)
+    infos.push(blank())?;
+    let wanted = Some(Ty::Num(CNum::I64));
+    let seen = judge_indexes(around, file, alloc, wanted, wanted, indexes, infos, broken)?;
+    Ok(if_fine(
+        seen.is_fine,
+        Said::Value(element_or_view(view, seen.slices)),
+    ))
 }
 
-#[cycle(walk)]
 fn judge_object_index<A: Around>(
     around: &A,
     file: FileId,
@@ -1427,19 +1267,17 @@ fn judge_object_index<A: Around>(
     ensures nodes { OnOk result (infos.new.items ≡ infos.old.items ++ (object_index file place (all_indexed (A.surroundings around.now) file indexes.now)).nodes) }
     ensures broken { OnOk result (broken.new.items ≡ broken.old.items ++ (object_index file place (all_indexed (A.surroundings around.now) file indexes.now)).breaches) }
 {
+    infos.push(blank())?;
     let one = Some(Ty::Object);
-    if slices(indexes) == 0 {
-        let given = Said::Value(Ty::Object);
-        return judge_fine_index(
-            around, file, alloc, given, one, None, indexes, infos, broken,
-        );
+    let seen = judge_indexes(around, file, alloc, one, None, indexes, infos, broken)?;
+    if seen.slices == 0 {
+        return Ok(if_fine(seen.is_fine, Said::Value(Ty::Object)));
     }
     broken.push(breaks(file, 3, place))?;
-    judge_no_index(around, file, alloc, one, None, indexes, infos, broken)
+    Ok(Said::Nothing)
 }
 
 // One index of a view's `shape`.
-#[cycle(walk)]
 fn judge_dimension<A: Around>(
     around: &A,
     file: FileId,
@@ -1463,7 +1301,6 @@ fn judge_dimension<A: Around>(
     Ok(Said::Nothing)
 }
 
-#[cycle(walk)]
 fn judge_many_dimensions<A: Around>(
     around: &A,
     file: FileId,
@@ -1477,11 +1314,11 @@ fn judge_many_dimensions<A: Around>(
     ensures nodes { OnOk result (infos.new.items ≡ infos.old.items ++ (no_index (breaks file 22 at ∷ []) (all_indexed (A.surroundings around.now) file indexes.now)).nodes) }
     ensures broken { OnOk result (broken.new.items ≡ broken.old.items ++ (no_index (breaks file 22 at ∷ []) (all_indexed (A.surroundings around.now) file indexes.now)).breaches) }
 {
+    judge_no_index(around, file, alloc, None, None, indexes, infos, broken)?;
     broken.push(breaks(file, 22, at))?;
-    judge_no_index(around, file, alloc, None, None, indexes, infos, broken)
+    Ok(Said::Nothing)
 }
 
-#[cycle(walk)]
 fn judge_shape_index<A: Around>(
     around: &A,
     file: FileId,
@@ -1502,7 +1339,6 @@ fn judge_shape_index<A: Around>(
     }
 }
 
-#[cycle(walk)]
 fn judge_misused_index<A: Around>(
     around: &A,
     file: FileId,
@@ -1516,11 +1352,11 @@ fn judge_misused_index<A: Around>(
     ensures nodes { OnOk result (infos.new.items ≡ infos.old.items ++ (no_index (misused file before.at before.said) (all_indexed (A.surroundings around.now) file indexes.now)).nodes) }
     ensures broken { OnOk result (broken.new.items ≡ broken.old.items ++ (no_index (misused file before.at before.said) (all_indexed (A.surroundings around.now) file indexes.now)).breaches) }
 {
+    judge_no_index(around, file, alloc, None, None, indexes, infos, broken)?;
     note_misused(file, before.at, before.said, broken)?;
-    judge_no_index(around, file, alloc, None, None, indexes, infos, broken)
+    Ok(Said::Nothing)
 }
 
-#[cycle(walk)]
 fn judge_wrong_index<A: Around>(
     around: &A,
     file: FileId,
@@ -1534,11 +1370,11 @@ fn judge_wrong_index<A: Around>(
     ensures nodes { OnOk result (infos.new.items ≡ infos.old.items ++ (no_index (breaks file 3 place ∷ []) (all_indexed (A.surroundings around.now) file indexes.now)).nodes) }
     ensures broken { OnOk result (broken.new.items ≡ broken.old.items ++ (no_index (breaks file 3 place ∷ []) (all_indexed (A.surroundings around.now) file indexes.now)).breaches) }
 {
+    judge_no_index(around, file, alloc, None, None, indexes, infos, broken)?;
     broken.push(breaks(file, 3, place))?;
-    judge_no_index(around, file, alloc, None, None, indexes, infos, broken)
+    Ok(Said::Nothing)
 }
 
-#[cycle(walk)]
 fn judge_item<A: Around>(
     around: &A,
     file: FileId,
@@ -1601,7 +1437,6 @@ fn judge_attribute<A: Around>(
 }
 
 // A part behind what stands before it.
-#[cycle(walk)]
 fn judge_part<A: Around>(
     around: &A,
     file: FileId,
@@ -1646,7 +1481,6 @@ fn judge_part<A: Around>(
 }
 
 // Parts from left to right.
-#[cycle(walk)]
 fn judge_parts<A: Around>(
     around: &A,
     file: FileId,
@@ -1674,7 +1508,6 @@ fn judge_parts<A: Around>(
     Ok(before)
 }
 
-#[cycle(walk)]
 fn judge_postfix<A: Around>(
     around: &A,
     file: FileId,
