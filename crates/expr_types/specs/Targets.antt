@@ -1,5 +1,5 @@
 -- An expression as a target (Python language reference, 7.2; Cython documentation, "Typed Memoryviews").
-use Rattle.std.specs.Prelude.{ℕ, Bool, true, false, if◌then◌else◌, List, [], ◌∷◌, ◌++◌}
+use Rattle.std.specs.Prelude.{ℕ, ◌-◌, Bool, true, false, if◌then◌else◌, List, [], ◌∷◌, ◌++◌, Option, Some, None, length, slice_get}
 use Rattle.std.specs.List.{list_any}
 use Rattle.cy_base.specs.declared.place.Refusal.{Refusal}
 use Rattle.cy_tree.specs.declared.expr.Expr.{Expr, Expr-F, out-Expr}
@@ -44,15 +44,17 @@ part_store file at told (Part-F.Attribute place i) = attribute_store file told.o
 part_store file at told (Part-F.Call place arguments) = breaks file 1 at ∷ []
 part_store file at told (Part-F.Item place indexes) = item_store file at told.owner indexes
 
-abbrev pub last_store : ℕ → ℕ → Told → List Part → List Refusal
-last_store file at told [] = breaks file 1 at ∷ []
-last_store file at told (p ∷ []) = part_store file at told (out-Part p)
-last_store file at told (p ∷ q ∷ ps) = last_store file at told (q ∷ ps)
+abbrev pub last_store : ℕ → ℕ → Told → Option Part → List Refusal
+last_store file at told None = breaks file 1 at ∷ []
+last_store file at told (Some p) = part_store file at told (out-Part p)
+
+abbrev pub last_part : List Part → Option Part
+last_part ps = slice_get ps (length ps - 1)
 
 -- 1: a target that is no name, attribute or item, at its first byte
 abbrev pub store : ℕ → Told → Expr-F Expr Index Part → List Refusal
 store file told (Expr-F.Name i) = []
-store file told (Expr-F.Postfix at x parts) = last_store file at told parts
+store file told (Expr-F.Postfix at x parts) = last_store file at told (last_part parts)
 store file told e = breaks file 1 told.at ∷ []
 
 -- what is broken by an expression that is a target, beside what is broken where it is read
