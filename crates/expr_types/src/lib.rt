@@ -8,6 +8,10 @@ mod operators;
 mod parts;
 mod place;
 mod said;
+#[cfg(test)]
+mod tests;
 mod walk;
+mod whole;
 
 pub use said::{Arithmetic, Prefix, Said, Told};
+pub use whole::{Judgement, condition, meeting, target, value};

@@ -36,9 +36,9 @@ use std::alloc::Global;
 
 /// What is told of an expression, and the place of its node.
 #[derive(Clone, Copy)]
-struct Seen {
-    told: Told,
-    place: usize,
+pub(crate) struct Seen {
+    pub told: Told,
+    pub place: usize,
 }
 
 /// What operators in a row give, and the first operand behind one.
@@ -119,6 +119,8 @@ fn said_or_nothing(said: Option<Said>) -> Said
     }
 }
 
+#[cycle(walk)]
+#[tactic(auto, unfolding(crate::specs::Expressions::judged))]
 fn judge<A: Around>(
     around: &A,
     file: FileId,
@@ -132,10 +134,179 @@ fn judge<A: Around>(
     ensures nodes { OnOk result (infos.new.items ≡ infos.old.items ++ (judged (A.surroundings around.now) file e.now is_condition).inside) }
     ensures broken { OnOk result (broken.new.items ≡ broken.old.items ++ (judged (A.surroundings around.now) file e.now is_condition).breaches) }
 {
-    Err(OutOfMemory)
+    match e {
+        Expr::Conditional(at, value, test, other) => judge_conditional(
+            around,
+            file,
+            alloc,
+            *at,
+            value.get(),
+            test.get(),
+            other.get(),
+            infos,
+            broken,
+        ),
+        Expr::Or(at, xs) => judge_choice(
+            around,
+            file,
+            alloc,
+            *at,
+            xs.as_slice(),
+            is_condition,
+            infos,
+            broken,
+        ),
+        Expr::And(at, xs) => judge_choice(
+            around,
+            file,
+            alloc,
+            *at,
+            xs.as_slice(),
+            is_condition,
+            infos,
+            broken,
+        ),
+        Expr::Not(at, x) => judge_not(around, file, alloc, *at, x.get(), infos, broken),
+        Expr::Compare(at, x, op, place, y) => judge_compare(
+            around,
+            file,
+            alloc,
+            *at,
+            x.get(),
+            *op,
+            *place,
+            y.get(),
+            infos,
+            broken,
+        ),
+        Expr::BitOr(at, x, more) => judge_bits(
+            around,
+            file,
+            alloc,
+            *at,
+            x.get(),
+            more.as_slice(),
+            infos,
+            broken,
+        ),
+        Expr::BitXor(at, x, more) => judge_bits(
+            around,
+            file,
+            alloc,
+            *at,
+            x.get(),
+            more.as_slice(),
+            infos,
+            broken,
+        ),
+        Expr::BitAnd(at, x, more) => judge_bits(
+            around,
+            file,
+            alloc,
+            *at,
+            x.get(),
+            more.as_slice(),
+            infos,
+            broken,
+        ),
+        Expr::Shift(at, x, more) => judge_shift(
+            around,
+            file,
+            alloc,
+            *at,
+            x.get(),
+            more.as_slice(),
+            infos,
+            broken,
+        ),
+        Expr::Sum(at, x, more) => judge_sum(
+            around,
+            file,
+            alloc,
+            *at,
+            x.get(),
+            more.as_slice(),
+            infos,
+            broken,
+        ),
+        Expr::Term(at, x, more) => judge_term(
+            around,
+            file,
+            alloc,
+            *at,
+            x.get(),
+            more.as_slice(),
+            infos,
+            broken,
+        ),
+        Expr::Unary(at, op, x) => judge_unary(
+            around,
+            file,
+            alloc,
+            *at,
+            *op,
+            x.get(),
+            infos,
+            broken,
+        ),
+        Expr::Cast(at, kind, is_checked, x) => judge_cast(
+            around,
+            file,
+            alloc,
+            *at,
+            cast_type(around, kind, *is_checked),
+            x.get(),
+            infos,
+            broken,
+        ),
+        Expr::Postfix(at, x, parts) => judge_postfix(
+            around,
+            file,
+            alloc,
+            *at,
+            x.get(),
+            parts.as_slice(),
+            infos,
+            broken,
+        ),
+        Expr::Name(name) => Ok(judge_name(around, name)),
+        Expr::Int(at, n) => Ok(plain(*at, Said::Literal(*n))),
+        Expr::Str(at, _) => Ok(plain(*at, Said::Value(Ty::Object))),
+        Expr::NoneNode(at) => Ok(plain(*at, Said::Value(Ty::Object))),
+        Expr::TrueNode(at) => Ok(plain(*at, Said::Value(Ty::Bint))),
+        Expr::FalseNode(at) => Ok(plain(*at, Said::Value(Ty::Bint))),
+        Expr::Tuple(at, xs) => judge_display(
+            around,
+            file,
+            alloc,
+            *at,
+            xs.as_slice(),
+            infos,
+            broken,
+        ),
+        Expr::ListNode(at, xs) => judge_display(
+            around,
+            file,
+            alloc,
+            *at,
+            xs.as_slice(),
+            infos,
+            broken,
+        ),
+        Expr::Dict(at, pairs) => judge_dict(
+            around,
+            file,
+            alloc,
+            *at,
+            pairs.as_slice(),
+            infos,
+            broken,
+        ),
+    }
 }
 
 // An expression that isn't called, indexed or asked for an attribute.
+#[cycle(walk)]
 fn judge_used<A: Around>(
     around: &A,
     file: FileId,
@@ -155,7 +326,8 @@ fn judge_used<A: Around>(
 }
 
 // An expression with its node, of which nothing is wanted yet.
-fn judge_node<A: Around>(
+#[cycle(walk)]
+pub(crate) fn judge_node<A: Around>(
     around: &A,
     file: FileId,
     alloc: Global,
@@ -177,7 +349,8 @@ fn judge_node<A: Around>(
 }
 
 // An expression that meets a place of a type, and whether it does without breaking a rule.
-fn judge_meeting<A: Around>(
+#[cycle(walk)]
+pub(crate) fn judge_meeting<A: Around>(
     around: &A,
     file: FileId,
     alloc: Global,
@@ -203,7 +376,8 @@ fn judge_meeting<A: Around>(
 }
 
 // An expression whose truth is asked.
-fn judge_asked<A: Around>(
+#[cycle(walk)]
+pub(crate) fn judge_asked<A: Around>(
     around: &A,
     file: FileId,
     alloc: Global,
@@ -222,6 +396,7 @@ fn judge_asked<A: Around>(
 }
 
 // Expressions that meet a place of an object each.
+#[cycle(walk)]
 fn judge_items<A: Around>(
     around: &A,
     file: FileId,
@@ -243,6 +418,7 @@ fn judge_items<A: Around>(
 }
 
 // Expressions whose truth is asked.
+#[cycle(walk)]
 fn judge_all_asked<A: Around>(
     around: &A,
     file: FileId,
@@ -264,6 +440,7 @@ fn judge_all_asked<A: Around>(
 }
 
 // Expressions of which nothing is wanted.
+#[cycle(walk)]
 fn judge_all_alone<A: Around>(
     around: &A,
     file: FileId,
@@ -289,6 +466,7 @@ fn judge_all_alone<A: Around>(
 }
 
 // Arguments, each of which meets its parameter.
+#[cycle(walk)]
 fn judge_arguments<A: Around>(
     around: &A,
     file: FileId,
@@ -311,6 +489,7 @@ fn judge_arguments<A: Around>(
 }
 
 // The keys and values of a dictionary.
+#[cycle(walk)]
 fn judge_entries<A: Around>(
     around: &A,
     file: FileId,
@@ -333,6 +512,7 @@ fn judge_entries<A: Around>(
 }
 
 // Operands of `and` and `or` outside a condition.
+#[cycle(walk)]
 fn judge_choices<A: Around>(
     around: &A,
     file: FileId,
@@ -352,6 +532,7 @@ fn judge_choices<A: Around>(
     Ok(found)
 }
 
+#[cycle(walk)]
 fn judge_display<A: Around>(
     around: &A,
     file: FileId,
@@ -369,6 +550,7 @@ fn judge_display<A: Around>(
     Ok(plain(at, if_fine(is_fine, Said::Value(Ty::Object))))
 }
 
+#[cycle(walk)]
 fn judge_dict<A: Around>(
     around: &A,
     file: FileId,
@@ -386,6 +568,7 @@ fn judge_dict<A: Around>(
     Ok(plain(at, if_fine(is_fine, Said::Value(Ty::Object))))
 }
 
+#[cycle(walk)]
 fn judge_not<A: Around>(
     around: &A,
     file: FileId,
@@ -403,6 +586,7 @@ fn judge_not<A: Around>(
     Ok(plain(at, if_fine(is_fine, Said::Value(Ty::Bint))))
 }
 
+#[cycle(walk)]
 fn judge_condition_choice<A: Around>(
     around: &A,
     file: FileId,
@@ -420,6 +604,7 @@ fn judge_condition_choice<A: Around>(
     Ok(plain(at, if_fine(is_fine, Said::Value(Ty::Bint))))
 }
 
+#[cycle(walk)]
 fn judge_value_choice<A: Around>(
     around: &A,
     file: FileId,
@@ -438,6 +623,7 @@ fn judge_value_choice<A: Around>(
     Ok(plain(at, choosing_said(around, found.as_slice())))
 }
 
+#[cycle(walk)]
 fn judge_choice<A: Around>(
     around: &A,
     file: FileId,
@@ -459,6 +645,7 @@ fn judge_choice<A: Around>(
     }
 }
 
+#[cycle(walk)]
 fn judge_conditional<A: Around>(
     around: &A,
     file: FileId,
@@ -482,6 +669,7 @@ fn judge_conditional<A: Around>(
     Ok(plain(at, if_fine(is_fine, joined(around, &arms))))
 }
 
+#[cycle(walk)]
 fn judge_unary<A: Around>(
     around: &A,
     file: FileId,
@@ -501,6 +689,7 @@ fn judge_unary<A: Around>(
     Ok(plain(at, unary_said(op, told.said)))
 }
 
+#[cycle(walk)]
 fn judge_uncast<A: Around>(
     around: &A,
     file: FileId,
@@ -519,6 +708,7 @@ fn judge_uncast<A: Around>(
     Ok(plain(at, Said::Nothing))
 }
 
+#[cycle(walk)]
 fn judge_cast_to<A: Around>(
     around: &A,
     file: FileId,
@@ -537,6 +727,7 @@ fn judge_cast_to<A: Around>(
     Ok(plain(at, if_fine(is_fine, Said::Value(to))))
 }
 
+#[cycle(walk)]
 fn judge_cast<A: Around>(
     around: &A,
     file: FileId,
@@ -557,6 +748,7 @@ fn judge_cast<A: Around>(
     }
 }
 
+#[cycle(walk)]
 fn judge_compare<A: Around>(
     around: &A,
     file: FileId,
@@ -594,6 +786,7 @@ fn judge_compare<A: Around>(
 }
 
 // An operand behind its operator, and what it is.
+#[cycle(walk)]
 fn judge_operand<A: Around>(
     around: &A,
     file: FileId,
@@ -629,6 +822,7 @@ fn judge_operand<A: Around>(
 }
 
 // Operands from left to right.
+#[cycle(walk)]
 fn judge_bits_row<A: Around>(
     around: &A,
     file: FileId,
@@ -659,6 +853,7 @@ fn judge_bits_row<A: Around>(
     })
 }
 
+#[cycle(walk)]
 fn judge_bits<A: Around>(
     around: &A,
     file: FileId,
@@ -686,6 +881,7 @@ fn judge_bits<A: Around>(
 }
 
 // Operands from left to right.
+#[cycle(walk)]
 fn judge_shift_row<A: Around>(
     around: &A,
     file: FileId,
@@ -716,6 +912,7 @@ fn judge_shift_row<A: Around>(
     })
 }
 
+#[cycle(walk)]
 fn judge_shift<A: Around>(
     around: &A,
     file: FileId,
@@ -743,6 +940,7 @@ fn judge_shift<A: Around>(
 }
 
 // Operands from left to right.
+#[cycle(walk)]
 fn judge_sum_row<A: Around>(
     around: &A,
     file: FileId,
@@ -773,6 +971,7 @@ fn judge_sum_row<A: Around>(
     })
 }
 
+#[cycle(walk)]
 fn judge_sum<A: Around>(
     around: &A,
     file: FileId,
@@ -800,6 +999,7 @@ fn judge_sum<A: Around>(
 }
 
 // Operands from left to right.
+#[cycle(walk)]
 fn judge_term_row<A: Around>(
     around: &A,
     file: FileId,
@@ -830,6 +1030,7 @@ fn judge_term_row<A: Around>(
     })
 }
 
+#[cycle(walk)]
 fn judge_term<A: Around>(
     around: &A,
     file: FileId,
@@ -856,6 +1057,7 @@ fn judge_term<A: Around>(
     Ok(plain(at, row.said))
 }
 
+#[cycle(walk)]
 fn judge_object_call<A: Around>(
     around: &A,
     file: FileId,
@@ -873,6 +1075,7 @@ fn judge_object_call<A: Around>(
     Ok(if_fine(is_fine, Said::Value(Ty::Object)))
 }
 
+#[cycle(walk)]
 fn judge_no_call<A: Around>(
     around: &A,
     file: FileId,
@@ -890,6 +1093,7 @@ fn judge_no_call<A: Around>(
     Ok(Said::Nothing)
 }
 
+#[cycle(walk)]
 fn judge_full_call<A: Around>(
     around: &A,
     file: FileId,
@@ -909,6 +1113,7 @@ fn judge_full_call<A: Around>(
     Ok(if_fine(is_fine, Said::Value(signature.result)))
 }
 
+#[cycle(walk)]
 fn judge_c_call<A: Around>(
     around: &A,
     file: FileId,
@@ -930,6 +1135,7 @@ fn judge_c_call<A: Around>(
     judge_no_call(around, file, alloc, xs, infos, broken)
 }
 
+#[cycle(walk)]
 fn judge_function_call<A: Around>(
     around: &A,
     file: FileId,
@@ -959,6 +1165,7 @@ fn judge_function_call<A: Around>(
     }
 }
 
+#[cycle(walk)]
 fn judge_misused_call<A: Around>(
     around: &A,
     file: FileId,
@@ -976,6 +1183,7 @@ fn judge_misused_call<A: Around>(
     judge_no_call(around, file, alloc, xs, infos, broken)
 }
 
+#[cycle(walk)]
 fn judge_wrong_call<A: Around>(
     around: &A,
     file: FileId,
@@ -993,6 +1201,7 @@ fn judge_wrong_call<A: Around>(
     judge_no_call(around, file, alloc, xs, infos, broken)
 }
 
+#[cycle(walk)]
 fn judge_call<A: Around>(
     around: &A,
     file: FileId,
@@ -1029,6 +1238,7 @@ fn judge_call<A: Around>(
 }
 
 // An expression of which something may be wanted: whether it breaks no rule, and what it is.
+#[cycle(walk)]
 fn judge_wanting<A: Around>(
     around: &A,
     file: FileId,
@@ -1064,6 +1274,7 @@ fn judge_wanting<A: Around>(
 }
 
 // An end of a slice.
+#[cycle(walk)]
 fn judge_end<A: Around>(
     around: &A,
     file: FileId,
@@ -1083,6 +1294,7 @@ fn judge_end<A: Around>(
     }
 }
 
+#[cycle(walk)]
 fn judge_one_index<A: Around>(
     around: &A,
     file: FileId,
@@ -1108,6 +1320,7 @@ fn judge_one_index<A: Around>(
     })
 }
 
+#[cycle(walk)]
 fn judge_slice<A: Around>(
     around: &A,
     file: FileId,
@@ -1136,6 +1349,8 @@ fn judge_slice<A: Around>(
 }
 
 // An index: whether it breaks no rule, whether it is a slice, and the literal that it is.
+#[cycle(walk)]
+#[tactic(auto, unfolding(crate::specs::Expressions::indexed))]
 fn judge_index<A: Around>(
     around: &A,
     file: FileId,
@@ -1161,6 +1376,7 @@ fn judge_index<A: Around>(
 }
 
 // Indexes: whether they break no rule, and how many are slices.
+#[cycle(walk)]
 fn judge_indexes<A: Around>(
     around: &A,
     file: FileId,
@@ -1190,6 +1406,7 @@ fn judge_indexes<A: Around>(
     })
 }
 
+#[cycle(walk)]
 fn judge_no_index<A: Around>(
     around: &A,
     file: FileId,
@@ -1209,6 +1426,7 @@ fn judge_no_index<A: Around>(
     Ok(Said::Nothing)
 }
 
+#[cycle(walk)]
 fn judge_wrong_number<A: Around>(
     around: &A,
     file: FileId,
@@ -1228,6 +1446,7 @@ fn judge_wrong_number<A: Around>(
     Ok(Said::Nothing)
 }
 
+#[cycle(walk)]
 fn judge_view_index<A: Around>(
     around: &A,
     file: FileId,
@@ -1254,6 +1473,7 @@ fn judge_view_index<A: Around>(
     ))
 }
 
+#[cycle(walk)]
 fn judge_object_index<A: Around>(
     around: &A,
     file: FileId,
@@ -1278,6 +1498,7 @@ fn judge_object_index<A: Around>(
 }
 
 // One index of a view's `shape`.
+#[cycle(walk)]
 fn judge_dimension<A: Around>(
     around: &A,
     file: FileId,
@@ -1301,6 +1522,7 @@ fn judge_dimension<A: Around>(
     Ok(Said::Nothing)
 }
 
+#[cycle(walk)]
 fn judge_many_dimensions<A: Around>(
     around: &A,
     file: FileId,
@@ -1319,6 +1541,7 @@ fn judge_many_dimensions<A: Around>(
     Ok(Said::Nothing)
 }
 
+#[cycle(walk)]
 fn judge_shape_index<A: Around>(
     around: &A,
     file: FileId,
@@ -1339,6 +1562,7 @@ fn judge_shape_index<A: Around>(
     }
 }
 
+#[cycle(walk)]
 fn judge_misused_index<A: Around>(
     around: &A,
     file: FileId,
@@ -1357,6 +1581,7 @@ fn judge_misused_index<A: Around>(
     Ok(Said::Nothing)
 }
 
+#[cycle(walk)]
 fn judge_wrong_index<A: Around>(
     around: &A,
     file: FileId,
@@ -1375,6 +1600,7 @@ fn judge_wrong_index<A: Around>(
     Ok(Said::Nothing)
 }
 
+#[cycle(walk)]
 fn judge_item<A: Around>(
     around: &A,
     file: FileId,
@@ -1437,6 +1663,8 @@ fn judge_attribute<A: Around>(
 }
 
 // A part behind what stands before it.
+#[cycle(walk)]
+#[tactic(auto, unfolding(crate::specs::Expressions::part_said))]
 fn judge_part<A: Around>(
     around: &A,
     file: FileId,
@@ -1481,6 +1709,7 @@ fn judge_part<A: Around>(
 }
 
 // Parts from left to right.
+#[cycle(walk)]
 fn judge_parts<A: Around>(
     around: &A,
     file: FileId,
@@ -1508,6 +1737,7 @@ fn judge_parts<A: Around>(
     Ok(before)
 }
 
+#[cycle(walk)]
 fn judge_postfix<A: Around>(
     around: &A,
     file: FileId,
