@@ -7,6 +7,7 @@ use std::alloc::Global;
 use std::test::Fail;
 
 // Where each name is a module global.
+#[derive(Drop)]
 struct Globals {}
 
 impl Around for Globals {
