@@ -1,1 +1,3 @@
+mod Agree
+mod Nearest
 mod Numbered

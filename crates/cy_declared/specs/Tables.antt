@@ -1,5 +1,5 @@
 -- The tables that answer what declarations say. The project's own.
-use Rattle.std.specs.Prelude.{ℕ, List, ◌∷◌, map, Option, Some, None, slice_get}
+use Rattle.std.specs.Prelude.{ℕ, List, [], ◌∷◌, map, Option, Some, None, slice_get}
 use Rattle.std.specs.Option.{option_map}
 use Rattle.cy_around.specs.declared.callable.Callable.{Callable}
 use Rattle.cy_around.specs.declared.member.MemberSaid.{MemberSaid}
@@ -75,6 +75,9 @@ nearest_member set tables class name = nearest_among tables (class ∷ bases set
 
 abbrev pub type_table : List Typed → TypeTable
 type_table ts = record { names = number_table (map (λ t. t.0) ts); types = map (λ t. t.1) ts }
+
+abbrev pub no_types : TypeTable
+no_types = record { names = []; types = [] }
 
 abbrev pub type_at : TypeTable → Option (List ℕ) → Ty
 type_at table None = ty.Object

@@ -2,7 +2,7 @@
 ghost use Rattle.std.specs.Prelude.{◌≡◌, IfOk, None, Some};
 ghost use Rattle.cy_declared.specs.Around.{surroundings};
 ghost use Rattle.cy_declared.specs.Shown.{owned_shown};
-ghost use Rattle.cy_declared.specs.Tables.{around_at, tables_with};
+ghost use Rattle.cy_declared.specs.Tables.{around_at, no_types, tables_with};
 ghost use Rattle.cy_scope.specs.Declarations.{known_of};
 
 use crate::local::{TypeTable, local_types, named_at};
@@ -27,6 +27,14 @@ pub struct ScopeTypes<'a> {
     pub locals: TypeTable,
 }
 
+fn no_types(alloc: Global) -> TypeTable
+    ensures { result ≡ no_types }
+{
+    let names = NameTable::new(alloc);
+    let types = Items::new(alloc);
+    TypeTable { names, types }
+}
+
 impl<'a> ScopeTypes<'a> {
     /// Around the expressions at module level.
     pub fn of_module(alloc: Global, set: &'a NamedSet, tables: &'a Tables, home: u32) -> ScopeTypes<'a>
@@ -34,9 +42,7 @@ impl<'a> ScopeTypes<'a> {
             around_at result.set.now result.tables.now result.scope result.home result.locals
             ≡ surroundings set.now (record { scope = home; module_number = home; function = None }) }
     {
-        let names = NameTable::new(alloc);
-        let types = Items::new(alloc);
-        let locals = TypeTable { names, types };
+        let locals = no_types(alloc);
         let scope = home;
         ScopeTypes {
             set,

@@ -2,9 +2,11 @@
 ghost use Rattle.std.specs.Prelude.{◌≡◌, ◌+◌, ◌++◌, IfOk, OnOk, length, map};
 ghost use Rattle.std.specs.Option.{option_copied};
 ghost use Rattle.cy_declared.specs.Members.{class_members, class_named, field_entry, fields_by, members_from, members_here, method_entry, methods_from};
+ghost use Rattle.cy_declared.specs.Named.{number_of, numbered};
 ghost use Rattle.cy_declared.specs.Shown.{class_refs, members_shown};
 ghost use Rattle.cy_declared.specs.Tables.{class_table, member_table};
 ghost use Rattle.cy_tree.specs.Functions.{methods_of};
+ghost use Rattle.name_table.specs.Entries.{kind_among};
 ghost use Rattle.name_table.specs.EntriesShown.{slices};
 
 use crate::field::{note_field_entries, note_fields, note_pxd_classes};
@@ -91,12 +93,18 @@ fn class_table(alloc: Global, classes: &[&PxdClass]) -> Result<NameTable, OutOfM
     number_table(alloc, names.as_slice())
 }
 
-fn class_named<'a>(table: &NameTable, classes: &[&'a PxdClass], name: &[u8]) -> Option<&'a PxdClass>
-    requires { table.now ≡ class_table (class_refs classes.now) }
-    ensures { option_copied result.entry ≡ class_named (class_refs classes.now) name.now }
+fn find_class<'a>(table: &NameTable, classes: &[&'a PxdClass], name: &[u8]) -> Option<&'a PxdClass>
+    ensures { option_copied result ≡ numbered (class_refs classes.now) (number_of (kind_among table.now name.now)) }
 {
     let place = number_of(table.get(name))?;
     at(classes, place as usize).copied()
+}
+
+fn class_named<'a>(table: &NameTable, classes: &[&'a PxdClass], name: &[u8]) -> Option<&'a PxdClass>
+    requires { table.now ≡ class_table (class_refs classes.now) }
+    ensures { option_copied result ≡ class_named (class_refs classes.now) name.now }
+{
+    find_class(table, classes, name)
 }
 
 /// The members of a class, before which so many functions of the module came.

@@ -1,12 +1,13 @@
 //! The types of the locals of a function.
-ghost use Rattle.std.specs.Prelude.{◌≡◌, ◌++◌, List, Some, IfOk, OnOk, map};
+ghost use Rattle.std.specs.Prelude.{◌≡◌, ◌++◌, List, Some, IfOk, OnOk, map, slice_get};
 ghost use Rattle.std.specs.Option.{option_copied};
 ghost use Rattle.cy_declared.specs.Shown.{all_typed_shown, declarations_shown, owned_shown};
 ghost use Rattle.cy_declared.specs.Named.{number_of, numbered};
 ghost use Rattle.cy_declared.specs.Tables.{type_at, type_table};
 ghost use Rattle.cy_declared.specs.Variables.{Typed, named_at, typed_as, typed_declaration, typed_names, typed_param, typed_params};
-ghost use Rattle.name_table.specs.Entries.{kind_among};
+ghost use Rattle.name_table.specs.Entries.{kind_among, texts};
 ghost use Rattle.name_table.specs.EntriesShown.{slices};
+ghost use Rattle.name_table.specs.Shown.{shown};
 
 use crate::owned::{Noted, OwnedRef};
 use crate::table::{number_of, number_table};
@@ -169,14 +170,20 @@ pub(crate) fn local_types(
     type_table(alloc, typed.as_slice())
 }
 
+fn text_at(scope: &Scope, number: u32) -> Option<&[u8]>
+    ensures { option_copied result ≡ slice_get (texts (shown scope.entry.now.names.entries)) number }
+{
+    match scope.names.get_index(number as usize) {
+        Some((name, _)) => Some(name.as_slice()),
+        None => None,
+    }
+}
+
 /// The name of a number among those that a scope holds.
 pub(crate) fn named_at(scope: Option<&Scope>, number: u32) -> Option<&[u8]>
     ensures { option_copied result ≡ named_at (option_copied scope.entry) number }
 {
-    match scope?.names.get_index(number as usize) {
-        Some((name, _)) => Some(name.as_slice()),
-        None => None,
-    }
+    text_at(scope?, number)
 }
 
 impl TypeTable {
@@ -184,6 +191,12 @@ impl TypeTable {
     pub(crate) fn get(&self, name: Option<&[u8]>) -> Ty
         ensures at { result ≡ type_at self.now (option_copied name.entry) }
         ensures first { (typed : List Typed) → self.now ≡ type_table typed → result ≡ typed_as typed (option_copied name.entry) }
+    {
+        self.get_named(name)
+    }
+
+    fn get_named(&self, name: Option<&[u8]>) -> Ty
+        ensures { result ≡ type_at self.now (option_copied name.entry) }
     {
         match name {
             None => Ty::Object,

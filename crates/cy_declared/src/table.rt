@@ -85,6 +85,12 @@ impl MemberTable {
         ensures at { result ≡ member_at self.now name.now }
         ensures first { (entries : List MemberEntry) → self.now ≡ member_table entries → result ≡ first_among entries name.now }
     {
+        self.find(name)
+    }
+
+    fn find(&self, name: &[u8]) -> Option<OwnMember>
+        ensures { result ≡ member_at self.now name.now }
+    {
         let place = number_of(self.names.get(name))?;
         at(self.members.as_slice(), place as usize).copied()
     }

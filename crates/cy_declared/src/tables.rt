@@ -141,6 +141,12 @@ impl Tables {
         ensures at { option_copied result ≡ function_at self.entry.now id }
         ensures declared { (set : Set) → self.entry.now ≡ tables_with self.entry.now.known set → option_copied result ≡ callable self.entry.now.known set id }
     {
+        self.find_function(id)
+    }
+
+    fn find_function(&self, id: FnId) -> Option<&Callable>
+        ensures { option_copied result ≡ function_at self.entry.now id }
+    {
         let tables = at(self.modules.as_slice(), id.module as usize)?;
         at(tables.functions.as_slice(), id.index as usize)?.as_ref()
     }
@@ -169,6 +175,12 @@ impl Tables {
         ensures at { result ≡ own_member_at self.now class name.now }
         ensures declared { (set : Set) → self.now ≡ tables_with self.now.known set → result ≡ own_member self.now.known set class name.now }
     {
+        self.find_member(class, name)
+    }
+
+    fn find_member(&self, class: ClassId, name: &[u8]) -> Option<OwnMember>
+        ensures { result ≡ own_member_at self.now class name.now }
+    {
         let tables = at(self.modules.as_slice(), class.module as usize)?;
         at(tables.classes.as_slice(), class.index as usize)?.get(name)
     }
@@ -182,13 +194,10 @@ impl Tables {
         for _step in 0..32usize {
             match found {
                 None => return None,
-                Some(above) => {
-                    let said = as_said(self.own_member(above, name));
-                    if said.is_some() {
-                        return said;
-                    }
-                    found = base_of(set, above);
-                }
+                Some(above) => match as_said(self.find_member(above, name)) {
+                    Some(said) => return Some(said),
+                    None => found = base_of(set, above),
+                },
             }
         }
         None

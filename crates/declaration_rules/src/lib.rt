@@ -5,6 +5,8 @@ mod declaration;
 mod file;
 mod place;
 mod special;
+#[cfg(test)]
+mod tests;
 mod types;
 mod views;
 

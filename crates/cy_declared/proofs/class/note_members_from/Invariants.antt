@@ -1,7 +1,5 @@
 use Rattle.std.proofs.Common.{◌≡◌, ◌++◌, drop, map}
-use Rattle.std.specs.List.{flat_map}
-use Rattle.std.specs.Option.{option_copied}
-use Rattle.cy_declared.specs.Shown.{class_refs, declarations_shown, members_shown}
+use Rattle.cy_declared.specs.Shown.{class_refs}
 use Rattle.cy_declared.specs.Members.{members_from}
 use Rattle.std.proofs.Common.{length}
 use Rattle.cy_declared.specs.Tables.{member_table}

@@ -1,7 +1,6 @@
-use Rattle.std.proofs.Common.{◌≡◌, ◌++◌, drop, map}
+use Rattle.std.proofs.Common.{◌≡◌, ◌++◌, drop}
 use Rattle.std.specs.List.{flat_map}
-use Rattle.std.specs.Option.{option_copied}
-use Rattle.cy_declared.specs.Shown.{class_refs, declarations_shown, members_shown}
+use Rattle.cy_declared.specs.Shown.{declarations_shown}
 use Rattle.cy_declared.specs.Members.{pxd_fields_in}
 use Rattle.cy_declared.proofs.field.note_all_pxd_fields.Given as goal
 

@@ -1,7 +1,5 @@
 use Rattle.std.proofs.Common.{◌≡◌, ◌++◌, drop, map}
-use Rattle.std.specs.List.{flat_map}
-use Rattle.std.specs.Option.{option_copied}
-use Rattle.cy_declared.specs.Shown.{class_refs, declarations_shown, members_shown}
+use Rattle.cy_declared.specs.Shown.{declarations_shown, members_shown}
 use Rattle.cy_declared.specs.Members.{field_entry}
 use Rattle.cy_declared.proofs.field.note_field_entries.Given as goal
 

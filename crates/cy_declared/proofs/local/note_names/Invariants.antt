@@ -1,5 +1,5 @@
 use Rattle.std.proofs.Common.{◌≡◌, ◌++◌, drop, map}
-use Rattle.cy_declared.specs.Shown.{all_typed_shown, declarations_shown}
+use Rattle.cy_declared.specs.Shown.{all_typed_shown}
 use Rattle.name_table.specs.EntriesShown.{slices}
 use Rattle.cy_declared.proofs.local.note_names.Given as goal
 

@@ -1,6 +1,6 @@
 use Rattle.std.proofs.Common.{◌≡◌, ◌++◌, drop, map}
-use Rattle.cy_declared.specs.Shown.{all_typed_shown, declarations_shown}
-use Rattle.cy_declared.specs.Variables.{typed_declaration, typed_param}
+use Rattle.cy_declared.specs.Shown.{all_typed_shown}
+use Rattle.cy_declared.specs.Variables.{typed_param}
 use Rattle.cy_declared.proofs.local.note_params.Given as goal
 
 abbrev pub invariant-loop-param : goal.invariant-loop-param

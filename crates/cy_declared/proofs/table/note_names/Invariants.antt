@@ -1,7 +1,5 @@
 use Rattle.std.proofs.Common.{◌≡◌, ◌++◌, drop, map}
-use Rattle.std.specs.List.{flat_map}
-use Rattle.std.specs.Option.{option_copied}
-use Rattle.cy_declared.specs.Shown.{class_refs, declarations_shown, members_shown}
+use Rattle.cy_declared.specs.Shown.{members_shown}
 use Rattle.name_table.specs.EntriesShown.{slices}
 use Rattle.cy_declared.proofs.table.note_names.Given as goal
 

@@ -1,6 +1,4 @@
-use Rattle.std.proofs.Common.{◌≡◌, ◌++◌, drop, map}
-use Rattle.std.specs.List.{flat_map}
-use Rattle.std.specs.Option.{option_copied}
+use Rattle.std.proofs.Common.{◌≡◌, ◌++◌, drop}
 use Rattle.name_table.specs.EntriesShown.{entries_shown, slices}
 use Rattle.cy_declared.specs.Named.{numbered_from}
 use Rattle.cy_declared.proofs.table.note_numbered.Given as goal
