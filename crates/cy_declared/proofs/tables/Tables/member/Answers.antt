@@ -13,8 +13,8 @@ returns-in-None c =
     let n = 32 - c.loop-step._step in
     sym (c.loop-step.invariant ∙ ap (λ (o : Option ClassId). nearest_among t (found_from n set o) c.args.name.now) c.in-None.is ∙ nearest-none n set t c.args.name.now)
 
-pub returns-in-Some-in-Some : goal.returns-in-Some-in-Some
-returns-in-Some-in-Some c =
+pub returns-in-Some-as_said : goal.returns-in-Some-as_said
+returns-in-Some-as_said c =
     let set = c.args.set.now in
     let t = c.args.self.now in
     let name = c.args.name.now in
@@ -24,7 +24,7 @@ returns-in-Some-in-Some c =
     sym (c.loop-step.invariant
     ∙ ap (λ (o : Option ClassId). nearest_among t (found_from n set o) name) c.in-Some.is
     ∙ ap (λ (k : ℕ). nearest_among t (found_from k set (Some c.in-Some.above)) name) one
-    ∙ nearest-here m set t c.in-Some.above name c.in-Some-in-Some.said (ap as_said (sym c.find_member.ensures) ∙ sym c.as_said.ensures ∙ c.in-Some-in-Some.is))
+    ∙ nearest-here m set t c.in-Some.above name c.in-Some-as_said.said (ap as_said (sym c.find_member.ensures) ∙ sym c.as_said.ensures ∙ c.in-Some-as_said.is))
 
 pub loop-step-preserved : goal.loop-step-preserved
 loop-step-preserved c =
@@ -37,7 +37,7 @@ loop-step-preserved c =
     c.loop-step.invariant
     ∙ ap (λ (o : Option ClassId). nearest_among t (found_from n set o) name) c.in-Some.is
     ∙ ap (λ (k : ℕ). nearest_among t (found_from k set (Some c.in-Some.above)) name) one
-    ∙ nearest-above m set t c.in-Some.above name (ap as_said (sym c.find_member.ensures) ∙ sym c.as_said.ensures ∙ c.in-Some-in-None.is)
+    ∙ nearest-above m set t c.in-Some.above name (ap as_said (sym c.find_member.ensures) ∙ sym c.as_said.ensures ∙ c.in-None-as_said.is)
     ∙ ap (λ (o : Option ClassId). nearest_among t (found_from m set o) name) (sym c.base_of-found.ensures)
 
 pub returns : goal.returns
