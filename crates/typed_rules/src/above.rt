@@ -1,8 +1,10 @@
 //! The members of a name that the bases of a class declare.
-ghost use Rattle.std.specs.Prelude.{◌≡◌, IfOk};
+ghost use Rattle.std.specs.Prelude.{◌≡◌, ◌++◌, IfOk, OnOk};
 ghost use Rattle.std.specs.List.{list_any};
+ghost use Rattle.cy_declared.specs.Members.{own_member};
 ghost use Rattle.cy_declared.specs.Tables.{tables_with};
-ghost use Rattle.typed_rules.specs.Rules.{first_method, is_empty, is_field, members_above};
+ghost use Rattle.cy_tree.specs.Bases.{base_of};
+ghost use Rattle.typed_rules.specs.Rules.{first_method, is_empty, is_field, maybe_list, members_above};
 
 use cy_base::OutOfMemory;
 use cy_coerce::base_of;
@@ -10,6 +12,28 @@ use cy_declared::{OwnMember, Tables};
 use cy_tree::{ClassId, NamedSet};
 use sqlite_items::Items;
 use std::alloc::Global;
+
+// Appends what a class declares under a name, and answers its base.
+fn note_own(
+    set: &NamedSet,
+    tables: &Tables,
+    class: ClassId,
+    name: &[u8],
+    out: &mut Items<OwnMember>,
+) -> Result<Option<ClassId>, OutOfMemory>
+    requires { tables.now ≡ tables_with tables.now.known set.now }
+    ensures noted { OnOk result (out.new ≡ out.old ++ maybe_list (own_member tables.now.known set.now class name.now)) }
+    ensures base { IfOk result (λ found. found ≡ base_of set.now class) }
+{
+    let base = base_of(set, class);
+    match tables.own_member(class, name) {
+        None => Ok(base),
+        Some(member) => {
+            out.push(member)?;
+            Ok(base)
+        }
+    }
+}
 
 /// What the bases of a class declare under a name, the nearest first: at most 31 steps.
 pub(crate) fn members_above(
@@ -27,12 +51,7 @@ pub(crate) fn members_above(
     for _step in 0..31usize {
         match found {
             None => return Ok(members),
-            Some(above) => {
-                if let Some(member) = tables.own_member(above, name) {
-                    members.push(member)?;
-                }
-                found = base_of(set, above);
-            }
+            Some(above) => found = note_own(set, tables, above, name, &mut members)?,
         }
     }
     Ok(members)
