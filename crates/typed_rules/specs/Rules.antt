@@ -1,8 +1,8 @@
 -- The rules on declarations by what their types and names mean, by their numbers: each lists where it is broken in a file of module m
 -- (Cython documentation, "Language Basics", "Error return values", "Extension Types").
-use Rattle.std.specs.Prelude.{◌≡◌, ℕ, zero, suc, Bool, true, false, not, ◌&&◌, ◌||◌, if◌then◌else◌, nat_eq, ℤ, pos, List, [], ◌∷◌, ◌++◌, map, Option, Some, None}
+use Rattle.std.specs.Prelude.{◌≡◌, ℕ, zero, suc, Bool, true, false, not, ◌&&◌, ◌||◌, if◌then◌else◌, nat_eq, int_lt, ℤ, pos, List, [], ◌∷◌, ◌++◌, map, Option, Some, None}
 use Rattle.std.specs.List.{flat_map, list_any}
-use Rattle.std.specs.Ordering.{int_eq, int_lt}
+use Rattle.std.specs.Ordering.{int_eq}
 use Rattle.std.proofs.Math.Bool.{beq}
 use Rattle.cy_base.specs.declared.place.Phase.TheVariants.{Static}
 use Rattle.cy_base.specs.declared.place.Refusal.{Refusal}
@@ -150,7 +150,7 @@ kind_eq _ _ = false
 
 abbrev pub types_eq : List Ty → List Ty → Bool
 types_eq [] [] = true
-types_eq (a ∷ as) (b ∷ bs) = type_eq a b && types_eq as bs
+types_eq (a ∷ more) (b ∷ others) = type_eq a b && types_eq more others
 types_eq _ _ = false
 
 abbrev pub clause_eq : Clause → Clause → Bool

@@ -5,4 +5,4 @@ use Rattle.typed_rules.proofs.above.members_above.Given as goal
 
 abbrev pub invariant-loop-step : goal.invariant-loop-step
 invariant-loop-step l =
-    members_above l.tables.known l.set l.class l.name ≡ l.members ++ members_among l.tables.known l.set l.name (found_from (31 - l._step) l.set l.found)
+    members_above l.tables.known l.set l.fn.class l.name ≡ l.members ++ members_among l.tables.known l.set l.name (found_from (31 - l._step) l.set l.found)
