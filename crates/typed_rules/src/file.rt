@@ -25,7 +25,7 @@ fn judge_all(
     declarations: &[Declaration<'_>],
     least: Least,
 ) -> Result<Least, OutOfMemory>
-    requires { place.entry.tables.now ≡ tables_with place.entry.tables.now.known place.entry.set.now }
+    requires { place.tables.now ≡ tables_with place.tables.now.known place.set.now }
     ensures { IfOk result (λ found. IsLeastWith least
         (flat_map (clause_breaches place.entry.file place.entry.tables.now.known place.entry.set.now place.entry.home) (declarations_shown declarations.now)
         ++ (bases_breaches place.entry.file place.entry.set.now place.entry.home content.now

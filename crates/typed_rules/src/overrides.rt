@@ -55,7 +55,7 @@ fn c_breaks(set: &NamedSet, tables: &Tables, method: &Callable, above: &[OwnMemb
 }
 
 fn judge_field(alloc: Global, place: Place<'_>, class: ClassId, name: &Ident, least: Least) -> Judged
-    requires { place.entry.tables.now ≡ tables_with place.entry.tables.now.known place.entry.set.now }
+    requires { place.tables.now ≡ tables_with place.tables.now.known place.set.now }
     ensures { IfOk result (λ found. IsLeastWith least (field_breaches place.entry.file place.entry.tables.now.known place.entry.set.now class name.now) found) }
 {
     let above = members_above(alloc, place.set, place.tables, class, name.text.bytes())?;
@@ -64,7 +64,7 @@ fn judge_field(alloc: Global, place: Place<'_>, class: ClassId, name: &Ident, le
 }
 
 fn judge_fields(alloc: Global, place: Place<'_>, class: ClassId, names: &[Ident], least: Least) -> Judged
-    requires { place.entry.tables.now ≡ tables_with place.entry.tables.now.known place.entry.set.now }
+    requires { place.tables.now ≡ tables_with place.tables.now.known place.set.now }
     ensures { IfOk result (λ found. IsLeastWith least
         (flat_map (field_breaches place.entry.file place.entry.tables.now.known place.entry.set.now class) names.now) found) }
 {
@@ -76,7 +76,7 @@ fn judge_fields(alloc: Global, place: Place<'_>, class: ClassId, names: &[Ident]
 }
 
 fn judge_def(alloc: Global, place: Place<'_>, class: ClassId, def: &Def, least: Least) -> Judged
-    requires { place.entry.tables.now ≡ tables_with place.entry.tables.now.known place.entry.set.now }
+    requires { place.tables.now ≡ tables_with place.tables.now.known place.set.now }
     ensures { IfOk result (λ found. IsLeastWith least
         (def_breaches place.entry.file place.entry.tables.now.known place.entry.set.now class def.now) found) }
 {
@@ -92,7 +92,7 @@ fn judge_heading(
     heading: &Heading,
     least: Least,
 ) -> Judged
-    requires { place.entry.tables.now ≡ tables_with place.entry.tables.now.known place.entry.set.now }
+    requires { place.tables.now ≡ tables_with place.tables.now.known place.set.now }
     ensures { IfOk result (λ found. IsLeastWith least
         (heading_breaches place.entry.file place.entry.tables.now.known place.entry.set.now place.entry.home class heading.now) found) }
 {
@@ -111,7 +111,7 @@ fn judge_member(
     member: &Member,
     least: Least,
 ) -> Judged
-    requires { place.entry.tables.now ≡ tables_with place.entry.tables.now.known place.entry.set.now }
+    requires { place.tables.now ≡ tables_with place.tables.now.known place.set.now }
     ensures { IfOk result (λ found. IsLeastWith least
         (member_breaches place.entry.file place.entry.tables.now.known place.entry.set.now place.entry.home class member.now) found) }
 {
@@ -133,7 +133,7 @@ fn judge_members(
     members: &[Member],
     least: Least,
 ) -> Judged
-    requires { place.entry.tables.now ≡ tables_with place.entry.tables.now.known place.entry.set.now }
+    requires { place.tables.now ≡ tables_with place.tables.now.known place.set.now }
     ensures { IfOk result (λ found. IsLeastWith least
         (flat_map (member_breaches place.entry.file place.entry.tables.now.known place.entry.set.now place.entry.home class) members.now) found) }
 {
@@ -151,7 +151,7 @@ fn judge_pxd_member(
     member: &PxdMember,
     least: Least,
 ) -> Judged
-    requires { place.entry.tables.now ≡ tables_with place.entry.tables.now.known place.entry.set.now }
+    requires { place.tables.now ≡ tables_with place.tables.now.known place.set.now }
     ensures { IfOk result (λ found. IsLeastWith least
         (pxd_member_breaches place.entry.file place.entry.tables.now.known place.entry.set.now place.entry.home class member.now) found) }
 {
@@ -174,7 +174,7 @@ fn judge_pxd_members(
     members: &[PxdMember],
     least: Least,
 ) -> Judged
-    requires { place.entry.tables.now ≡ tables_with place.entry.tables.now.known place.entry.set.now }
+    requires { place.tables.now ≡ tables_with place.tables.now.known place.set.now }
     ensures { IfOk result (λ found. IsLeastWith least
         (flat_map (pxd_member_breaches place.entry.file place.entry.tables.now.known place.entry.set.now place.entry.home class) members.now) found) }
 {
@@ -192,7 +192,7 @@ fn judge_class(
     members: &[Member],
     least: Least,
 ) -> Judged
-    requires { place.entry.tables.now ≡ tables_with place.entry.tables.now.known place.entry.set.now }
+    requires { place.tables.now ≡ tables_with place.tables.now.known place.set.now }
     ensures { IfOk result (λ found. IsLeastWith least
         (in_class place.entry.file place.entry.tables.now.known place.entry.set.now place.entry.home class members.now) found) }
 {
@@ -209,7 +209,7 @@ fn judge_pxd_class(
     members: &[PxdMember],
     least: Least,
 ) -> Judged
-    requires { place.entry.tables.now ≡ tables_with place.entry.tables.now.known place.entry.set.now }
+    requires { place.tables.now ≡ tables_with place.tables.now.known place.set.now }
     ensures { IfOk result (λ found. IsLeastWith least
         (in_pxd_class place.entry.file place.entry.tables.now.known place.entry.set.now place.entry.home class members.now) found) }
 {
@@ -220,7 +220,7 @@ fn judge_pxd_class(
 }
 
 fn judge_top(alloc: Global, place: Place<'_>, top: &Top, least: Least) -> Judged
-    requires { place.entry.tables.now ≡ tables_with place.entry.tables.now.known place.entry.set.now }
+    requires { place.tables.now ≡ tables_with place.tables.now.known place.set.now }
     ensures { IfOk result (λ found. IsLeastWith least
         (top_overrides place.entry.file place.entry.tables.now.known place.entry.set.now place.entry.home top.now) found) }
 {
@@ -234,7 +234,7 @@ fn judge_top(alloc: Global, place: Place<'_>, top: &Top, least: Least) -> Judged
 }
 
 fn judge_tops(alloc: Global, place: Place<'_>, tops: &[Top], least: Least) -> Judged
-    requires { place.entry.tables.now ≡ tables_with place.entry.tables.now.known place.entry.set.now }
+    requires { place.tables.now ≡ tables_with place.tables.now.known place.set.now }
     ensures { IfOk result (λ found. IsLeastWith least
         (flat_map (top_overrides place.entry.file place.entry.tables.now.known place.entry.set.now place.entry.home) tops.now) found) }
 {
@@ -246,7 +246,7 @@ fn judge_tops(alloc: Global, place: Place<'_>, tops: &[Top], least: Least) -> Ju
 }
 
 fn judge_item(alloc: Global, place: Place<'_>, item: &PxdItem, least: Least) -> Judged
-    requires { place.entry.tables.now ≡ tables_with place.entry.tables.now.known place.entry.set.now }
+    requires { place.tables.now ≡ tables_with place.tables.now.known place.set.now }
     ensures { IfOk result (λ found. IsLeastWith least
         (item_overrides place.entry.file place.entry.tables.now.known place.entry.set.now place.entry.home item.now) found) }
 {
@@ -260,7 +260,7 @@ fn judge_item(alloc: Global, place: Place<'_>, item: &PxdItem, least: Least) -> 
 }
 
 fn judge_items(alloc: Global, place: Place<'_>, items: &[PxdItem], least: Least) -> Judged
-    requires { place.entry.tables.now ≡ tables_with place.entry.tables.now.known place.entry.set.now }
+    requires { place.tables.now ≡ tables_with place.tables.now.known place.set.now }
     ensures { IfOk result (λ found. IsLeastWith least
         (flat_map (item_overrides place.entry.file place.entry.tables.now.known place.entry.set.now place.entry.home) items.now) found) }
 {
@@ -278,7 +278,7 @@ pub(crate) fn judge_overrides(
     content: &Content,
     least: Least,
 ) -> Judged
-    requires { place.entry.tables.now ≡ tables_with place.entry.tables.now.known place.entry.set.now }
+    requires { place.tables.now ≡ tables_with place.tables.now.known place.set.now }
     ensures { IfOk result (λ found. IsLeastWith least
         (override_breaches place.entry.file place.entry.tables.now.known place.entry.set.now place.entry.home content.now) found) }
 {
