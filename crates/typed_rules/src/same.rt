@@ -64,12 +64,15 @@ fn same_kind(a: CKind, b: CKind) -> bool
 fn same_types(a: &[Ty], b: &[Ty]) -> bool
     ensures { result ≡ types_eq a.now b.now }
 {
-    match (a, b) {
-        ([], []) => true,
-        ([first, rest @ ..], [other, others @ ..]) => {
-            same_type(*first, *other) && same_types(rest, others)
-        }
-        _ => false,
+    match a {
+        [] => match b {
+            [] => true,
+            [_, ..] => false,
+        },
+        [first, rest @ ..] => match b {
+            [] => false,
+            [other, others @ ..] => same_type(*first, *other) && same_types(rest, others),
+        },
     }
 }
 
