@@ -1,6 +1,6 @@
 -- The operators of C on numbers (ISO/IEC 9899:2011 6.3.1, 6.5.3.3, 6.5.5 to 6.5.12). That a conversion to a narrower or a
 -- signed type wraps, and that `>>` of a number below 0 floors, is the profile's own choice (6.3.1.3, 6.5.7).
-use Rattle.std.specs.Prelude.{ℕ, ◌^◌, Bool, true, false, not, ◌&&◌, ◌||◌, if◌then◌else◌, ℤ, pos, negsuc, ◌+ℤ◌, ◌-ℤ◌, ◌*ℤ◌, unsigned_abs}
+use Rattle.std.specs.Prelude.{◌^◌, Bool, not, ◌&&◌, ◌||◌, if◌then◌else◌, ℤ, pos, negsuc, ◌+ℤ◌, ◌-ℤ◌, ◌*ℤ◌, unsigned_abs}
 use Rattle.std.specs.Int.RustNames.{int_lt, int_le, int_div, int_rem}
 use Rattle.std.specs.Ordering.{int_eq}
 use Rattle.c_arith.specs.declared.number.Computed.{Computed}
@@ -11,7 +11,7 @@ use Rattle.c_tree.specs.declared.statement.BinaryOp.TheVariants as op
 use Rattle.cy_num.specs.declared.types.Arith.TheVariants.{And, Or, Xor}
 use Rattle.cy_num.specs.declared.types.CNum.{CNum}
 use Rattle.cy_num.specs.declared.types.CNum.TheVariants.{I32}
-use Rattle.cy_num.specs.Types.{bits, is_signed, least, greatest, promote, common}
+use Rattle.cy_num.specs.Types.{is_signed, least, greatest, promote, common}
 use Rattle.cy_num.specs.Division.{floored}
 use Rattle.cy_num.specs.Wrapping.{wrap}
 use Rattle.cy_num.specs.Arithmetic.{arith_result, is_bad_count}
@@ -84,11 +84,16 @@ greater_equal t a b = truth (int_le b a)
 
 -- ---- shifts, of a value of a promoted type by any count (6.5.7)
 
+-- whether a signed type lacks the value shifted by a count
+abbrev pub overflows : CNum → ℤ → ℤ → Bool
+overflows t a count = is_signed t && not (is_value t (a *ℤ pos (2 ^ unsigned_abs count)))
+
 -- a count below 0, or not below the width, is undefined; so is `<<` of a value below 0, and a result that a signed type
 -- doesn't have
 abbrev pub shifted_left : CNum → ℤ → ℤ → Computed
 shifted_left t a count =
-    if is_bad_count t count || int_lt a (pos 0) then Undefined else fitted t (a *ℤ pos (2 ^ unsigned_abs count))
+    if is_bad_count t count || (int_lt a (pos 0) || overflows t a count)
+    then Undefined else value_of t (wrap t (a *ℤ pos (2 ^ unsigned_abs count)))
 
 abbrev pub shifted_right : CNum → ℤ → ℤ → Computed
 shifted_right t a count =
