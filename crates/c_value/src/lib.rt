@@ -1,0 +1,22 @@
+//! Names, types and values of the machine: equality, tests and copies. What takes memory says so.
+#![tactic(auto)]
+
+mod copies;
+mod kinds;
+mod names;
+mod parts;
+mod values;
+
+pub use copies::{copied_bytes, copied_instance, copied_objects, copied_reading, copied_value};
+pub use kinds::{
+    are_pointers, converts, has_objects, initial_value, is_number, is_object, is_pointer, is_view,
+    kind_of, unset_of, zero_of,
+};
+pub use names::{
+    same_field, same_fixed, same_function, same_number, same_place, same_type, same_variable,
+};
+pub use parts::{as_memory, extent_at, extents_of, memory_value, with_extent, with_extents};
+pub use values::{
+    all_set, converted, is_null, is_set, object_of, objects_in, passed, passed_with, same_pointer,
+    wrapped,
+};
