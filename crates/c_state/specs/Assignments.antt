@@ -1,9 +1,10 @@
 -- `x = k;`, `x = k OP k;`, `x = ~k;`, `x = (T)k;` and jumps (ISO/IEC 9899:2011 6.5.3.3 to 6.5.16, 6.8.6.1).
 use Rattle.api_model.specs.declared.object.Obj.{Obj}
-use Rattle.std.specs.Prelude.{zero, Bool, true, false, not, ◌&&◌, ◌||◌, List, Option, Some, None, ℤ, pos, is_none, ℕ, ◌++◌, []}
+use Rattle.std.specs.Prelude.{zero, Bool, true, false, not, ◌&&◌, ◌||◌, List, Option, Some, None, ℤ, pos, is_none, ℕ, ◌++◌, [], ◌∷◌}
 use Rattle.cy_num.specs.declared.types.CNum.{CNum}
 use Rattle.cy_num.specs.Wrapping.{wrap}
 use Rattle.c_tree.specs.declared.name.Variable.{Variable}
+use Rattle.c_tree.specs.declared.name.Variable.TheVariants as variable
 use Rattle.c_tree.specs.declared.value.CType.{CType}
 use Rattle.c_tree.specs.declared.value.CValue.{CValue}
 use Rattle.c_tree.specs.declared.statement.BinaryOp.{BinaryOp}
@@ -28,19 +29,23 @@ use Rattle.c_state.specs.declared.change.Planned.{Planned}
 use Rattle.c_state.specs.declared.change.Planned.TheVariants.{Does}
 use Rattle.c_state.specs.Planned.{need, need_some, need_strictly, nothing, lending}
 use Rattle.c_state.specs.Reads.{read, lends, may_read, takes}
-use Rattle.c_state.specs.Stores.{give, may_store_to, may_write_to}
+use Rattle.c_state.specs.Stores.{give, may_store_to, may_write_to, is_tuple}
+
+-- the arguments of an `__init__` go to variables of functions alone
+abbrev pub may_hold : Variable → Value → Bool
+may_hold (variable.Place p) v = not (is_tuple v)
+may_hold x v = true
 
 -- `x = k;`
 abbrev pub assign : CState → Frame → Variable → CValue → Reading → Planned
 assign c f x k v =
-    need (takes c f x v.kind && may_store_to c f x) fault.Stuck
+    need (takes c f x v.kind && (may_store_to c f x && may_hold x v.value)) fault.Stuck
     (need (is_set v.value) fault.Undefined
     (need_strictly c (may_read c k v && may_write_to c f x) fault.Unlocked
     (give c f x v.value (lending (lends k v)))))
 
 -- ---- operators
 
--- an operand as it is computed with: a number of a type, or a pointer
 abbrev pub truth : Bool → Value
 truth true = value.Number (pos 1)
 truth false = value.Number (pos 0)
@@ -135,9 +140,13 @@ goto_compare c label a v o b w =
     (need_strictly c (may_read c a v && may_read c b w) fault.Unlocked
     (branch label (lends a v ++ lends b w) (is_true r.1))))))
 
--- `if (PyErr_Occurred()) goto L;`
+abbrev pub error_objects : Option Obj → List Obj
+error_objects None = []
+error_objects (Some o) = o ∷ []
+
+-- `if (PyErr_Occurred()) goto L;` lends the exception
 abbrev pub goto_error : CState → ℕ → Planned
-goto_error c label = need_strictly c c.shared.lock fault.Unlocked (branch label [] (not (is_none c.thread.error)))
+goto_error c label = need_strictly c c.shared.lock fault.Unlocked (branch label (error_objects c.thread.error) (not (is_none c.thread.error)))
 
 abbrev pub goto : List CFile → CState → Frame → CTest → ℕ → List Line → Planned
 goto files c f (test.Compare a o b) label ls =

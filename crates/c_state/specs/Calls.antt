@@ -13,6 +13,8 @@ use Rattle.c_tree.specs.declared.statement.Argument.{Argument}
 use Rattle.c_tree.specs.declared.item.Parameter.{Parameter}
 use Rattle.c_tree.specs.declared.item.Declaration.{Declaration}
 use Rattle.c_tree.specs.declared.item.StructTable.{StructTable}
+use Rattle.c_tree.specs.declared.item.Slot.{Slot}
+use Rattle.c_tree.specs.declared.value.CType.{CType}
 use Rattle.c_tree.specs.declared.item.CHead.{CHead}
 use Rattle.c_tree.specs.declared.item.CHead.TheVariants as head
 use Rattle.c_tree.specs.declared.item.CFunction.{CFunction}
@@ -27,9 +29,9 @@ use Rattle.c_state.specs.declared.frame.Cell.{Cell}
 use Rattle.c_state.specs.declared.frame.Entered.{Entered}
 use Rattle.c_state.specs.declared.frame.Entered.TheVariants as entered
 use Rattle.c_state.specs.declared.frame.Doing.TheVariants as doing
-use Rattle.c_state.specs.declared.change.FunctionPlace.{FunctionPlace}
-use Rattle.c_state.specs.Linked.{function_named, function_at, table_of, functions_of, table_struct_of, adds_slot, begins_with, item_count}
-use Rattle.c_state.specs.Values.{kind_of, int, size, converted, initial_value, is_object, all_set, passed, values_of, fits}
+use Rattle.c_state.specs.declared.value.ItemPlace.{ItemPlace}
+use Rattle.c_state.specs.Linked.{function_named, function_at, table_named, table_at, functions_of, slot_of, begins_with, item_count}
+use Rattle.c_state.specs.Values.{same_kind, kind_of, int, size, converted, initial_value, is_object, all_set, passed, values_of, fits}
 use Rattle.c_state.specs.State.{Frame, CState, all_held, instance_of}
 use Rattle.c_state.specs.declared.change.Planned.{Planned}
 use Rattle.c_state.specs.declared.change.Planned.TheVariants.{Fault, Does}
@@ -115,7 +117,7 @@ receives_result c f (Some x) None = false
 receives_result c f (Some x) (Some k) = receives c f (Some x) k
 
 -- a function is entered from C, and the newest frame waits for its result
-abbrev pub calling : FunctionPlace → Option Variable → List Reading → List Obj → Change
+abbrev pub calling : ItemPlace → Option Variable → List Reading → List Obj → Change
 calling p x vs os = record nothing {
   lends = os;
   doing = Some (doing.Waits x);
@@ -130,7 +132,7 @@ abbrev pub suits_found : CState → Frame → Option Variable → List Reading �
 suits_found c f x vs None = false
 suits_found c f x vs (Some fn) = suits c f x vs fn.head
 
-abbrev pub call_found : List CFile → CState → Frame → Option Variable → List Argument → List Reading → List Obj → Option FunctionPlace → Planned
+abbrev pub call_found : List CFile → CState → Frame → Option Variable → List Argument → List Reading → List Obj → Option ItemPlace → Planned
 call_found files c f x ks vs os None = Fault fault.Stuck
 call_found files c f x ks vs os (Some p) =
     need (suits_found c f x vs (function_at files p)) fault.Stuck
@@ -140,7 +142,7 @@ call_found files c f x ks vs os (Some p) =
     (Does (calling p x vs (os ++ lends_each ks vs))))))
 
 -- an initialisation function has no name of the profile
-abbrev pub callable : List CFile → ℕ → FunctionName → Option FunctionPlace
+abbrev pub callable : List CFile → ℕ → FunctionName → Option ItemPlace
 callable files k (function.Initializer n) = None
 callable files k name = function_named files k name
 
@@ -150,35 +152,73 @@ call files c f x name ks vs = call_found files c f x ks vs [] (callable files f.
 
 -- ---- `x = ((const struct V *)((struct cyc_root *)y)->vt)->mJ(k, ..);`
 
-abbrev pub in_table : List CFile → Numbered → ℕ → Option StructTable → Option FunctionName
-in_table files class j None = None
-in_table files class j (Some t) =
-    if begins_with files (item_count files) t.class class then slice_get (functions_of t) j else None
+abbrev pub kinds_in : List CType → List Kind
+kinds_in ts = map kind_of ts
 
-abbrev pub table_in_instance : List CFile → Option Numbered → Option StructTable
-table_in_instance files None = None
-table_in_instance files (Some class) = table_of files class
+-- whether operands and the result suit a slot
+abbrev pub suits_slot : CState → Frame → Option Variable → List Reading → Option Slot → Bool
+suits_slot c f x vs None = false
+suits_slot c f x vs (Some s) = fits (kinds_in s.parameters) vs && receives_result c f x (result_by s.result)
 
--- the function of a slot, where an instance has a method table with that struct
-abbrev pub method_of : List CFile → Numbered → ℕ → Option Instance → Option FunctionName
-method_of files class j None = None
-method_of files class j (Some i) = in_table files class j (table_in_instance files i.table)
+abbrev pub same_kinds : List Kind → List Kind → Bool
+same_kinds [] [] = true
+same_kinds (j ∷ js) (k ∷ ks) = same_kind j k && same_kinds js ks
+same_kinds _ _ = false
 
-abbrev pub function_of : List CFile → Option FunctionPlace → Option CFunction
+abbrev pub same_result : Option Kind → Option Kind → Bool
+same_result None None = true
+same_result (Some j) (Some k) = same_kind j k
+same_result _ _ = false
+
+-- whether a function is of the type of a slot
+abbrev pub has_type : Option Slot → Option CFunction → Bool
+has_type (Some s) (Some fn) =
+    same_kinds (kinds_in s.parameters) (kinds_of (parameters fn.head)) && same_result (result_by s.result) (result_kind fn.head)
+has_type _ _ = false
+
+-- the method table of an instance, where its struct is that of a class, or begins with it
+abbrev pub if_begins : List CFile → Numbered → ItemPlace → Option StructTable → Option ItemPlace
+if_begins files class p None = None
+if_begins files class p (Some t) = if begins_with files (item_count files) t.class class then Some p else None
+
+abbrev pub table_with : List CFile → Numbered → Option ItemPlace → Option ItemPlace
+table_with files class None = None
+table_with files class (Some p) = if_begins files class p (table_at files p)
+
+abbrev pub table_in : List CFile → Option Numbered → Option ItemPlace
+table_in files None = None
+table_in files (Some class) = table_named files class
+
+abbrev pub table_of : List CFile → Numbered → Option Instance → Option ItemPlace
+table_of files class None = None
+table_of files class (Some i) = table_with files class (table_in files i.table)
+
+abbrev pub slot_name : Option StructTable → ℕ → Option FunctionName
+slot_name None j = None
+slot_name (Some t) j = slice_get (functions_of t) j
+
+abbrev pub named_by : List CFile → ℕ → Option FunctionName → Option ItemPlace
+named_by files k None = None
+named_by files k (Some name) = callable files k name
+
+-- the function in a slot of a method table: a name of the file in which the table stands
+abbrev pub slot_function : List CFile → ItemPlace → ℕ → Option ItemPlace
+slot_function files p j = named_by files p.file (slot_name (table_at files p) j)
+
+abbrev pub function_of : List CFile → Option ItemPlace → Option CFunction
 function_of files None = None
 function_of files (Some p) = function_at files p
 
-abbrev pub call_slot : List CFile → CState → Frame → Option Variable → Variable → Reading → List Argument → List Reading → Option FunctionPlace → Planned
-call_slot files c f x object y ks vs p =
-    need (suits_found c f x vs (function_of files p)) fault.Stuck
+abbrev pub call_slot : List CFile → CState → Frame → Option Variable → Variable → Reading → List Argument → List Reading → Option Slot → Option ItemPlace → Planned
+call_slot files c f x object y ks vs s p =
+    need (has_type s (function_of files p)) fault.Stuck
     (need (all_set vs) fault.Undefined
-    (need_strictly c (may_read c (object_variable object) y) fault.Unlocked
-    (need_strictly c (may_read_each c ks vs) fault.Unlocked
+    (need_strictly c (may_read c (object_variable object) y && may_read_each c ks vs) fault.Unlocked
     (need_strictly c (uses c y) fault.Unheld
-    (call_found files c f x ks vs (lends (object_variable object) y) p)))))
+    (call_found files c f x ks vs (lends (object_variable object) y) p))))
 
 abbrev pub call_method : List CFile → CState → Frame → Option Variable → Numbered → Variable → ℕ → Reading → List Argument → List Reading → Planned
 call_method files c f x class object j y ks vs =
-    need (is_object y.kind && adds_slot (table_struct_of files class) j) fault.Stuck
-    (need_some (method_of files class j (instance_of c y.value)) fault.BadField (λ name.
-    call_slot files c f x object y ks vs (callable files f.file name)))
+    need (is_object y.kind && suits_slot c f x vs (slot_of files class j)) fault.Stuck
+    (need_some (table_of files class (instance_of c y.value)) fault.BadField (λ t.
+    call_slot files c f x object y ks vs (slot_of files class j) (slot_function files t j)))

@@ -15,6 +15,7 @@ use Rattle.c_state.specs.declared.change.Change.{Change}
 use Rattle.c_state.specs.declared.change.Entering.{Entering}
 use Rattle.c_state.specs.declared.change.ErrorChange.{ErrorChange}
 use Rattle.c_state.specs.declared.change.ErrorChange.TheVariants as error
+use Rattle.c_state.specs.declared.change.Remembered.{Remembered}
 use Rattle.c_state.specs.declared.change.Remembering.{Remembering}
 use Rattle.c_state.specs.declared.change.Remembering.TheVariants as remembering
 use Rattle.c_state.specs.declared.change.SpaceChange.{SpaceChange}
@@ -23,7 +24,7 @@ use Rattle.c_state.specs.declared.change.Initialising.{Initialising}
 use Rattle.c_state.specs.declared.change.Initialising.TheVariants as initialising
 use Rattle.c_state.specs.Linked.{function_at}
 use Rattle.c_state.specs.Ledger.{enter, leave, gain_all, lose_all, owned, owning, loan_all, end_loans}
-use Rattle.c_state.specs.State.{Frame, CState, with_shared, with_frames, with_ledger, with_error, with_remembered, with_taken, with_course, with_lock, with_instances, with_views, set_begun, set_failed, in_frame, put, set_spot, set_instance, stored_in, new_instance}
+use Rattle.c_state.specs.State.{Frame, CState, with_shared, with_frames, with_ledger, with_error, with_remembered, with_ensured, with_taken, with_course, with_lock, with_instances, with_views, set_begun, set_failed, in_frame, put, set_spot, set_instance, stored_in, new_instance}
 use Rattle.c_state.specs.Reads.{after_label}
 use Rattle.c_state.specs.Calls.{frame_of}
 
@@ -63,13 +64,13 @@ abbrev pub set_lock : Option Bool → CState → CState
 set_lock None c = c
 set_lock (Some l) c = with_lock l c
 
-abbrev pub forget : List Bool → List Bool
+abbrev pub forget : List Remembered → List Remembered
 forget [] = []
 forget (l ∷ ls) = ls
 
 abbrev pub remember : Remembering → CState → CState
 remember remembering.Stays c = c
-remember (remembering.Adds l) c = with_remembered (l ∷ c.thread.remembered) c
+remember (remembering.Adds l) c = with_ensured (suc c.thread.ensured) (with_remembered (l ∷ c.thread.remembered) c)
 remember remembering.Forgets c = with_remembered (forget c.thread.remembered) c
 
 abbrev pub change_instance : (Instance → Instance) → ℕ → Option Instance → CState → CState

@@ -1,5 +1,5 @@
 -- When an instance is destroyed, and by which code (Python/C API manual, "Type Objects", `tp_dealloc`).
-use Rattle.std.specs.Prelude.{ℕ, Bool, false, ◌&&◌, ◌||◌, List, [], ◌∷◌, Option, Some, None, if◌then◌else◌, true}
+use Rattle.std.specs.Prelude.{ℕ, zero, suc, Bool, false, ◌&&◌, ◌||◌, List, [], ◌∷◌, Option, Some, None, if◌then◌else◌, true}
 use Rattle.std.specs.List.{list_any}
 use Rattle.api_model.specs.declared.object.Obj.{Obj}
 use Rattle.api_model.specs.declared.object.Obj.TheVariants as obj
@@ -15,10 +15,10 @@ use Rattle.c_state.specs.declared.space.Spot.{Spot}
 use Rattle.c_state.specs.declared.space.Part.{Part}
 use Rattle.c_state.specs.declared.space.Instance.{Instance}
 use Rattle.c_state.specs.declared.frame.Entered.TheVariants as entered
-use Rattle.c_state.specs.Linked.{function_named, type_at}
+use Rattle.c_state.specs.Linked.{function_named, type_at, base_of, item_count}
 use Rattle.c_state.specs.Ledger.{in_use}
 use Rattle.c_state.specs.declared.change.Change.{Change}
-use Rattle.c_state.specs.declared.change.FunctionPlace.{FunctionPlace}
+use Rattle.c_state.specs.declared.value.ItemPlace.{ItemPlace}
 use Rattle.c_state.specs.Planned.{nothing}
 use Rattle.c_state.specs.State.{CState, instance_at, value_is}
 
@@ -48,28 +48,35 @@ is_kept c o =
     in_use c.thread.ledger.accounts o || (is_error c.thread.error o
     || (list_any (spots_hold o) c.shared.places || list_any (instance_holds o) c.shared.instances))
 
-abbrev pub dealloc_of : List CFile → ℕ → Option Numbered → Option FunctionPlace
-dealloc_of files k None = None
-dealloc_of files k (Some n) = function_named files k (function.Dealloc n)
+-- the dealloc code of a class: its own, or that of the nearest base that has some, in at most n steps
+abbrev pub dealloc_named : List CFile → ItemPlace → Option TypeObject → Option Numbered
+dealloc_named files t None = None
+dealloc_named files t (Some object) = object.dealloc
 
-abbrev pub dealloc_in : List CFile → ℕ → Option TypeObject → Option FunctionPlace
-dealloc_in files k None = None
-dealloc_in files k (Some t) = dealloc_of files k t.dealloc
+abbrev pub dealloc_by : List CFile → ℕ → Option Numbered → Option ItemPlace → Option ItemPlace
+dealloc_by files k None other = other
+dealloc_by files k (Some n) other = function_named files k (function.Dealloc n)
+
+abbrev pub dealloc_from : List CFile → ℕ → Option ItemPlace → Option ItemPlace
+dealloc_from files zero t = None
+dealloc_from files (suc n) None = None
+dealloc_from files (suc n) (Some t) =
+    dealloc_by files t.file (dealloc_named files t (type_at files t)) (dealloc_from files n (base_of files t))
 
 -- the dealloc code of an instance that may be destroyed
-abbrev pub destroyer : List CFile → CState → ℕ → Option Instance → Option FunctionPlace
+abbrev pub destroyer : List CFile → CState → ℕ → Option Instance → Option ItemPlace
 destroyer files c k None = None
-destroyer files c k (Some i) = if is_kept c (obj.Inst k) then None else dealloc_in files i.class.file (type_at files i.class)
+destroyer files c k (Some i) = if is_kept c (obj.Inst k) then None else dealloc_from files (suc (item_count files)) (Some i.class)
 
 -- an entry is taken, and nothing comes of it
 abbrev pub skipping : Change
 skipping = record nothing { takes = true }
 
 -- the dealloc code is entered, with the instance lent to it
-abbrev pub destroying : ℕ → Option FunctionPlace → Change
+abbrev pub destroying : ℕ → Option ItemPlace → Change
 destroying k None = skipping
 destroying k (Some p) = record skipping {
-  enters = Some (record { function = p; values = value.Object (obj.Inst k) ∷ []; lent = obj.Inst k ∷ []; by = entered.ForDestruction k });
+  enters = Some (record { function = p; values = value.Object (obj.Inst k) ∷ []; lent = obj.Inst k ∷ []; by = entered.ForDestruction });
 }
 
 -- `die K`; without the ledger the entry is skipped

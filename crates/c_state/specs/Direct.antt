@@ -1,6 +1,6 @@
 -- Calls of the Python/C API that ask nothing: counts, the exception that is set, the lock, tests, the arguments of an
 -- `__init__` (Python/C API manual, "Reference Counting", "Exception Handling", "Thread State and the Global Interpreter Lock").
-use Rattle.std.specs.Prelude.{suc, Bool, true, false, not, ◌&&◌, ◌||◌, List, [], ◌∷◌, Option, Some, None, ℤ, pos, negsuc, nat_eq, length, is_none, slice_get, ◌++◌}
+use Rattle.std.specs.Prelude.{Bool, true, false, not, ◌&&◌, ◌||◌, List, [], ◌∷◌, Option, Some, None, ℤ, pos, negsuc, nat_eq, length, is_none, is_some, slice_get, ◌++◌}
 use Rattle.api_model.specs.declared.object.Obj.{Obj}
 use Rattle.api_model.specs.declared.object.Obj.TheVariants as obj
 use Rattle.api_model.specs.declared.event.Event.TheVariants as event
@@ -10,18 +10,19 @@ use Rattle.c_tree.specs.declared.statement.Argument.{Argument}
 use Rattle.c_tree.specs.declared.item.CFile.{CFile}
 use Rattle.c_state.specs.declared.api.Api.{Api}
 use Rattle.c_state.specs.declared.api.Api.TheVariants as api
-use Rattle.cy_num.specs.declared.types.CNum.TheVariants as number
-use Rattle.cy_num.specs.Wrapping.{wrap}
+use Rattle.api_model.specs.declared.object.Allocation.{Allocation}
+use Rattle.api_model.specs.declared.object.Allocation.TheVariants as allocation
+use Rattle.c_state.specs.declared.change.Remembered.{Remembered}
 use Rattle.c_state.specs.declared.change.ErrorChange.TheVariants as error
 use Rattle.c_state.specs.declared.change.Remembering.TheVariants as remembering
 use Rattle.c_state.specs.declared.step.FaultKind.TheVariants as fault
-use Rattle.c_state.specs.declared.value.TypePlace.{TypePlace}
+use Rattle.c_state.specs.declared.value.ItemPlace.{ItemPlace}
 use Rattle.c_state.specs.declared.value.Value.{Value}
 use Rattle.c_state.specs.declared.value.Value.TheVariants as value
 use Rattle.c_state.specs.declared.value.Reading.{Reading}
 use Rattle.c_state.specs.declared.space.Instance.{Instance}
 use Rattle.c_state.specs.Linked.{is_below, item_count}
-use Rattle.c_state.specs.Values.{is_set, is_object, all_set, values_of, fits}
+use Rattle.c_state.specs.Values.{is_set, is_object, all_set, fits}
 use Rattle.c_ledger.specs.Ledger.{has}
 use Rattle.c_state.specs.Ledger.{owned}
 use Rattle.c_state.specs.State.{Frame, CState, held, instance_of}
@@ -31,13 +32,13 @@ use Rattle.c_state.specs.declared.change.Change.{Change}
 use Rattle.c_state.specs.Planned.{need, need_some, need_strictly, nothing, lending}
 use Rattle.c_state.specs.Reads.{lends_each}
 use Rattle.c_state.specs.Stores.{give_to, is_tuple, result_may_store}
-use Rattle.c_state.specs.Assignments.{truth}
-use Rattle.c_state.specs.Rows.{operands, are_needed, given_by, receives_row, clean_fault, may_run}
+use Rattle.c_state.specs.Assignments.{truth, error_objects}
+use Rattle.c_state.specs.Rows.{operands, suit_row, values_by, given_by, receives_row, clean_fault, may_run}
 
 -- the tests of every such row but those on its objects: its operands, where its result goes, the lock, the exception
 abbrev pub suits : CState → Frame → Option Variable → Api → ApiRow → List Reading → Bool
 suits c f x a r vs =
-    fits (operands a vs) vs && (are_needed (operands a vs) vs && (receives_row c f x (given_by r.gives a) && result_may_store c f x))
+    suit_row a vs && (receives_row c f x (given_by r.gives a) && result_may_store c f x)
 
 abbrev pub allowed : CState → Frame → Option Variable → Api → ApiRow → List Reading → Planned → Planned
 allowed c f x a r vs more =
@@ -81,7 +82,7 @@ xdecref c f x os vs = Fault fault.Stuck
 abbrev pub list_set : CState → List Obj → List Value → Planned
 list_set c os (value.Object l ∷ value.Number i ∷ value.Object o ∷ []) =
     need_strictly c (held c l && owns c o) fault.Unheld
-    (Does (record nothing { event = Some (event.Item l (wrap number.I64 i) o); lends = os; loses = o ∷ [] }))
+    (Does (record nothing { event = Some (event.Item l i o); lends = os; loses = o ∷ [] }))
 list_set c os vs = Fault fault.Stuck
 
 -- ---- the exception that is set
@@ -89,10 +90,6 @@ list_set c os vs = Fault fault.Stuck
 abbrev pub error_value : Option Obj → Value
 error_value None = value.Null
 error_value (Some o) = value.Object o
-
-abbrev pub error_objects : Option Obj → List Obj
-error_objects None = []
-error_objects (Some o) = o ∷ []
 
 -- `x = PyErr_Occurred();` lends the exception
 abbrev pub occurred : CState → Frame → Option Variable → Planned
@@ -125,20 +122,22 @@ restore c (v ∷ []) =
     need_strictly c (not c.shared.lock && is_saved v) fault.Unlocked (Does (record nothing { event = Some event.Restore; lock = Some true }))
 restore c vs = Fault fault.Stuck
 
--- `x = PyGILState_Ensure();` remembers whether the lock is held
+-- `x = PyGILState_Ensure();` remembers whether the lock is held, under a number of its own
+abbrev pub remembering_now : CState → Remembered
+remembering_now c = record { number = c.thread.ensured; held = c.shared.lock }
+
 abbrev pub ensured : CState → Frame → Option Variable → Planned
 ensured c f x =
-    give_to c f x (value.LockState (length c.thread.remembered))
-    (record nothing { lock = Some true; remembered = remembering.Adds c.shared.lock })
+    give_to c f x (value.LockState c.thread.ensured) (record nothing { lock = Some true; remembered = remembering.Adds (remembering_now c) })
 
 -- `PyGILState_Release(k);` gets the newest state that is remembered
-abbrev pub is_newest : List Bool → Value → Bool
-is_newest remembered (value.LockState n) = nat_eq (suc n) (length remembered)
-is_newest remembered _ = false
+abbrev pub is_newest : List Remembered → Value → Bool
+is_newest (r ∷ rs) (value.LockState n) = nat_eq n r.number
+is_newest _ _ = false
 
-abbrev pub newest : List Bool → Option Bool
+abbrev pub newest : List Remembered → Option Bool
 newest [] = None
-newest (l ∷ ls) = Some l
+newest (r ∷ rs) = Some r.held
 
 abbrev pub release : CState → List Value → Planned
 release c (v ∷ []) =
@@ -148,14 +147,19 @@ release c vs = Fault fault.Stuck
 
 -- ---- tests, and the arguments of an `__init__`
 
-abbrev pub is_instance : List CFile → Option Instance → TypePlace → Bool
-is_instance files None t = false
-is_instance files (Some i) t = is_below files (item_count files) i.class t
+-- an instance of a class, or of a heap type below it where that is asked
+abbrev pub is_of : Allocation → Allocation → Bool
+is_of allocation.Heap allocation.Static = false
+is_of wanted a = true
+
+abbrev pub is_instance : List CFile → Option Instance → ItemPlace → Allocation → Bool
+is_instance files None t a = false
+is_instance files (Some i) t a = is_of a i.allocation && is_below files (item_count files) i.class t
 
 -- `x = PyObject_TypeCheck(k, &cyc_ty_M_K);`
 abbrev pub type_check : List CFile → CState → Frame → Option Variable → List Obj → List Value → Planned
 type_check files c f x os (value.Object o ∷ value.TypeObject t a ∷ []) =
-    need_strictly c (held c o) fault.Unheld (give_to c f x (truth (is_instance files (instance_of c (value.Object o)) t)) (lending os))
+    need_strictly c (held c o) fault.Unheld (give_to c f x (truth (is_instance files (instance_of c (value.Object o)) t a)) (lending os))
 type_check files c f x os vs = Fault fault.Stuck
 
 abbrev pub count_of : List Obj → Value
@@ -172,7 +176,7 @@ item_at os (negsuc n) = None
 
 abbrev pub tuple_item : CState → Frame → Option Variable → List Value → Planned
 tuple_item c f x (value.Tuple os ∷ value.Number z ∷ []) =
-    need_some (item_at os (wrap number.I64 z)) fault.Stuck (λ o. give_to c f x (value.Object o) (lending (o ∷ [])))
+    need_some (item_at os z) fault.Stuck (λ o. give_to c f x (value.Object o) (lending (o ∷ [])))
 tuple_item c f x vs = Fault fault.Stuck
 
 -- whether the first operand is such arguments, and an item is within the count, as far as they are set
@@ -180,18 +184,18 @@ abbrev pub is_tuple_or_unset : Value → Bool
 is_tuple_or_unset v = is_tuple v || not (is_set v)
 
 abbrev pub has_item : Value → Value → Bool
-has_item (value.Tuple os) (value.Number z) = not (is_none (item_at os (wrap number.I64 z)))
+has_item (value.Tuple os) (value.Number z) = is_some (item_at os z)
 has_item v w = true
 
-abbrev pub fits_tuple : List Reading → Bool
-fits_tuple (v ∷ []) = is_tuple_or_unset v.value
-fits_tuple (v ∷ w ∷ []) = is_tuple_or_unset v.value && has_item v.value w.value
-fits_tuple vs = false
+abbrev pub suit_tuple : List Value → Bool
+suit_tuple (v ∷ []) = is_tuple_or_unset v
+suit_tuple (v ∷ w ∷ []) = is_tuple_or_unset v && has_item v w
+suit_tuple vs = false
 
 -- the two rows that read such arguments take nothing else
 abbrev pub tuple_row : CState → Frame → Option Variable → Api → ApiRow → List Reading → Planned → Planned
 tuple_row c f x a r vs more =
-    need (fits (operands a vs) vs && (fits_tuple vs && (receives_row c f x (given_by r.gives a) && result_may_store c f x))) fault.Stuck
+    need (fits (operands a vs) vs && (suit_tuple (values_by a vs) && (receives_row c f x (given_by r.gives a) && result_may_store c f x))) fault.Stuck
     (need (all_set vs) fault.Undefined
     (need_strictly c c.shared.lock fault.Unlocked
     (need (may_run c a r) (clean_fault r) more)))
@@ -206,9 +210,13 @@ is_view_or_unset value.Unset = true
 is_view_or_unset (value.Object (obj.View k)) = true
 is_view_or_unset _ = false
 
-abbrev pub fits_buffer : Api → List Reading → Bool
-fits_buffer api.GetBuffer (v ∷ []) = is_view_or_unset v.value
-fits_buffer _ vs = true
+-- what the last two rows of the table need beside the types: a memory view, and nowhere to send what no variable holds;
+-- `PyType_HasFeature` stands in a form of its own
+abbrev pub suit_buffer : Api → Option Variable → List Reading → Bool
+suit_buffer api.GetBuffer None (v ∷ []) = is_view_or_unset v.value
+suit_buffer api.GetBuffer x vs = false
+suit_buffer api.HasFeature x vs = false
+suit_buffer a x vs = true
 
 -- ---- the rows
 
@@ -230,7 +238,7 @@ by_api files c f x _ os vs = Fault fault.Stuck
 -- `x = Py..(k, ..);` where nothing is asked
 abbrev pub direct : List CFile → CState → Frame → Option Variable → Api → ApiRow → List Argument → List Reading → Planned
 direct files c f x api.Xdecref r ks vs = xdecref c f x (lends_each ks vs) vs
-direct files c f x api.TupleSize r ks vs = tuple_row c f x api.TupleSize r vs (tuple_size c f x (values_of vs))
-direct files c f x api.TupleItem r ks vs = tuple_row c f x api.TupleItem r vs (tuple_item c f x (values_of vs))
+direct files c f x api.TupleSize r ks vs = tuple_row c f x api.TupleSize r vs (tuple_size c f x (values_by api.TupleSize vs))
+direct files c f x api.TupleItem r ks vs = tuple_row c f x api.TupleItem r vs (tuple_item c f x (values_by api.TupleItem vs))
 direct files c f x a r ks vs =
-    need (fits_buffer a vs) fault.Stuck (allowed c f x a r vs (by_api files c f x a (lends_each ks vs) (values_of vs)))
+    need (suit_buffer a x vs) fault.Stuck (allowed c f x a r vs (by_api files c f x a (lends_each ks vs) (values_by a vs)))

@@ -23,24 +23,22 @@ use Rattle.c_tree.specs.declared.name.TableName.TheVariants as table
 use Rattle.c_tree.specs.declared.item.MethodRow.{MethodRow}
 use Rattle.c_tree.specs.declared.item.PropertyRow.{PropertyRow}
 use Rattle.c_tree.specs.declared.item.TypeObject.{TypeObject}
-use Rattle.c_tree.specs.declared.item.CItem.{CItem}
 use Rattle.c_tree.specs.declared.item.CFile.{CFile}
-use Rattle.c_state.specs.declared.value.TypePlace.{TypePlace}
+use Rattle.c_state.specs.declared.value.ItemPlace.{ItemPlace}
 use Rattle.c_state.specs.declared.value.Value.{Value}
 use Rattle.c_state.specs.declared.value.Value.TheVariants as value
 use Rattle.c_state.specs.declared.space.Spot.{Spot}
 use Rattle.c_state.specs.declared.space.Instance.{Instance}
 use Rattle.c_state.specs.declared.frame.Entered.TheVariants as entered
-use Rattle.c_state.specs.Linked.{function_named, items_at, module_file, methods_in, method_row, properties_in, property_row, sequence_in, mapping_in, class_in, is_below, item_count}
+use Rattle.c_state.specs.Linked.{function_named, type_at, module_file, methods_named, method_row, properties_named, property_row, sequence_named, mapping_named, class_named_in, is_below, item_count}
 use Rattle.c_state.specs.declared.change.Change.{Change}
-use Rattle.c_state.specs.declared.change.FunctionPlace.{FunctionPlace}
 use Rattle.c_state.specs.Planned.{nothing}
 use Rattle.c_state.specs.State.{CState, spot, spots_at, instance_of}
 use Rattle.c_state.specs.Answered.{read_in}
 
 -- a call from outside: the function, the values of its parameters, what is lent to it, and its trace line
 pub record OutsideCall : Type 0 where
-  pub function : FunctionPlace
+  pub function : ItemPlace
   pub values : List Value
   pub lent : List Obj
   pub line : Event
@@ -51,7 +49,7 @@ pub record Wanted : Type 0 where
   pub values : List Value
   pub lent : List Obj
 
-abbrev pub found_call : Wanted → Event → Option FunctionPlace → Option OutsideCall
+abbrev pub found_call : Wanted → Event → Option ItemPlace → Option OutsideCall
 found_call w line None = None
 found_call w line (Some p) = Some (record { function = p; values = w.values; lent = w.lent; line = line })
 
@@ -95,29 +93,33 @@ wrapper_call self args lent (Some r) =
 abbrev pub function_call : List CFile → CState → FunctionPath → List Obj → Event → Option OutsideCall
 function_call files c p args line =
     in_module files c p.module (λ k.
-    call_in files k line (wrapper_call value.Null args args (method_row (methods_in table.OfFile (items_at files k)) p.name)))
+    call_in files k line (wrapper_call value.Null args args (method_row (methods_named files k table.OfFile) p.name)))
 
 -- ---- classes
 
 abbrev pub class_name : List ℕ → List ℕ → List ℕ
 class_name m class = m ++ 46 ∷ class
 
-abbrev pub in_class : {A : Type 0} → List CFile → CState → List ℕ → List ℕ → (ℕ → TypeObject → Option A) → Option A
-in_class {A = A} files c m class more = in_module files c m (λ k. by_type k (class_in (class_name m class) (items_at files k)))
+-- a class that a module gives: its place, and its type object
+abbrev pub in_class : {A : Type 0} → List CFile → CState → List ℕ → List ℕ → (ItemPlace → TypeObject → Option A) → Option A
+in_class {A = A} files c m class more = in_module files c m (λ k. by_place (class_named_in files k (class_name m class)))
   where
-    by_type : ℕ → Option TypeObject → Option A
-    by_type k None = None
-    by_type k (Some t) = more k t
+    by_type : ItemPlace → Option TypeObject → Option A
+    by_type p None = None
+    by_type p (Some t) = more p t
 
-abbrev pub is_instance_of : List CFile → Option Instance → TypePlace → Bool
+    by_place : Option ItemPlace → Option A
+    by_place None = None
+    by_place (Some p) = by_type p (type_at files p)
+
+abbrev pub is_instance_of : List CFile → Option Instance → ItemPlace → Bool
 is_instance_of files None t = false
 is_instance_of files (Some i) t = is_below files (item_count files) i.class t
 
 -- what is called with `self`, the first object, where it is an instance of the class
-abbrev pub with_self : {A : Type 0} → List CFile → CState → ℕ → TypeObject → List Obj → (Obj → List Obj → Option A) → Option A
-with_self files c k t [] more = None
-with_self files c k t (o ∷ os) more =
-    if is_instance_of files (instance_of c (value.Object o)) (record { file = k; class = t.class }) then more o os else None
+abbrev pub with_self : {A : Type 0} → List CFile → CState → ItemPlace → List Obj → (Obj → List Obj → Option A) → Option A
+with_self files c p [] more = None
+with_self files c p (o ∷ os) more = if is_instance_of files (instance_of c (value.Object o)) p then more o os else None
 
 -- a slot function with its objects
 abbrev pub slot_call : (Numbered → FunctionName) → Option Numbered → List Value → List Obj → Option Wanted
@@ -128,72 +130,72 @@ abbrev pub first_of : Option Numbered → Option Numbered → Option Numbered
 first_of None other = other
 first_of (Some n) other = Some n
 
-abbrev pub sequence_of : List CItem → TypeObject → Option Numbered × Option Numbered
-sequence_of is t = by_name t.sequence
+abbrev pub sequence_of : List CFile → ℕ → TypeObject → Option Numbered × Option Numbered
+sequence_of files k t = by_name t.sequence
   where
     by_name : Option Numbered → Option Numbered × Option Numbered
     by_name None = (None, None)
-    by_name (Some n) = sequence_in n is
+    by_name (Some n) = sequence_named files k n
 
-abbrev pub mapping_of : List CItem → TypeObject → Option Numbered × Option Numbered
-mapping_of is t = by_name t.mapping
+abbrev pub mapping_of : List CFile → ℕ → TypeObject → Option Numbered × Option Numbered
+mapping_of files k t = by_name t.mapping
   where
     by_name : Option Numbered → Option Numbered × Option Numbered
     by_name None = (None, None)
-    by_name (Some n) = mapping_in n is
+    by_name (Some n) = mapping_named files k n
 
-abbrev pub methods_of : List CItem → TypeObject → List MethodRow
-methods_of is t = by_name t.methods
+abbrev pub methods_of : List CFile → ℕ → TypeObject → List MethodRow
+methods_of files k t = by_name t.methods
   where
     by_name : Option Numbered → List MethodRow
     by_name None = []
-    by_name (Some n) = methods_in (table.OfClass n) is
+    by_name (Some n) = methods_named files k (table.OfClass n)
 
-abbrev pub properties_of : List CItem → TypeObject → List PropertyRow
-properties_of is t = by_name t.properties
+abbrev pub properties_of : List CFile → ℕ → TypeObject → List PropertyRow
+properties_of files k t = by_name t.properties
   where
     by_name : Option Numbered → List PropertyRow
     by_name None = []
-    by_name (Some n) = properties_in n is
+    by_name (Some n) = properties_named files k n
 
 -- `__init__`: the objects behind `self` are a tuple, and there are no keywords
 abbrev pub init_call : TypeObject → Obj → List Obj → Option Wanted
 init_call t o os = slot_call function.Init t.init (value.Object o ∷ value.Tuple os ∷ value.Null ∷ []) (o ∷ os)
 
 -- `__len__` with `self` alone
-abbrev pub len_call : List CItem → TypeObject → Obj → List Obj → Option Wanted
-len_call is t o [] = slot_call function.Len (first_of (sequence_of is t).0 (mapping_of is t).0) (value.Object o ∷ []) (o ∷ [])
-len_call is t o os = None
+abbrev pub len_call : List CFile → ℕ → TypeObject → Obj → List Obj → Option Wanted
+len_call files k t o [] = slot_call function.Len (first_of (sequence_of files k t).0 (mapping_of files k t).0) (value.Object o ∷ []) (o ∷ [])
+len_call files k t o os = None
 
 -- `__getitem__` and `__contains__` with one object more
-abbrev pub item_call : List CItem → TypeObject → Obj → List Obj → Option Wanted
-item_call is t o (k ∷ []) = slot_call function.Item (mapping_of is t).1 (value.Object o ∷ value.Object k ∷ []) (o ∷ k ∷ [])
-item_call is t o os = None
+abbrev pub item_call : List CFile → ℕ → TypeObject → Obj → List Obj → Option Wanted
+item_call files k t o (key ∷ []) = slot_call function.Item (mapping_of files k t).1 (value.Object o ∷ value.Object key ∷ []) (o ∷ key ∷ [])
+item_call files k t o os = None
 
-abbrev pub has_call : List CItem → TypeObject → Obj → List Obj → Option Wanted
-has_call is t o (k ∷ []) = slot_call function.Has (sequence_of is t).1 (value.Object o ∷ value.Object k ∷ []) (o ∷ k ∷ [])
-has_call is t o os = None
+abbrev pub has_call : List CFile → ℕ → TypeObject → Obj → List Obj → Option Wanted
+has_call files k t o (key ∷ []) = slot_call function.Has (sequence_of files k t).1 (value.Object o ∷ value.Object key ∷ []) (o ∷ key ∷ [])
+has_call files k t o os = None
 
 -- a method by its name; `__cinit__` has none
-abbrev pub method_call : List CItem → TypeObject → List ℕ → Obj → List Obj → Option Wanted
-method_call is t name o os =
+abbrev pub method_call : List CFile → ℕ → TypeObject → List ℕ → Obj → List Obj → Option Wanted
+method_call files k t name o os =
     if bytes_eq name (codes "__init__") then init_call t o os else
     if bytes_eq name (codes "__cinit__") then None else
-    if bytes_eq name (codes "__len__") then len_call is t o os else
-    if bytes_eq name (codes "__getitem__") then item_call is t o os else
-    if bytes_eq name (codes "__contains__") then has_call is t o os else
-    wrapper_call (value.Object o) os (o ∷ os) (method_row (methods_of is t) name)
+    if bytes_eq name (codes "__len__") then len_call files k t o os else
+    if bytes_eq name (codes "__getitem__") then item_call files k t o os else
+    if bytes_eq name (codes "__contains__") then has_call files k t o os else
+    wrapper_call (value.Object o) os (o ∷ os) (method_row (methods_of files k t) name)
 
 abbrev pub member_call : List CFile → CState → MemberPath → List Obj → Event → Option OutsideCall
 member_call files c p args line =
-    in_class files c p.module p.class (λ k t.
-    with_self files c k t args (λ o os. call_in files k line (method_call (items_at files k) t p.name o os)))
+    in_class files c p.module p.class (λ here t.
+    with_self files c here args (λ o os. call_in files here.file line (method_call files here.file t p.name o os)))
 
 -- `new module.Class`: the type that is made is the class, or a heap type below it
 abbrev pub new_call : List CFile → CState → ClassName → Allocation → Event → Option OutsideCall
 new_call files c n a line =
-    in_class files c n.module n.class (λ k t.
-    call_in files k line (slot_call function.New t.new (value.TypeObject (record { file = k; class = t.class }) a ∷ value.Null ∷ value.Null ∷ []) []))
+    in_class files c n.module n.class (λ here t.
+    call_in files here.file line (slot_call function.New t.new (value.TypeObject here a ∷ value.Null ∷ value.Null ∷ []) []))
 
 -- ---- properties
 
@@ -211,8 +213,9 @@ setter_of o v lent (Some r) = by_setter r.setter
 
 abbrev pub property_call : List CFile → CState → MemberPath → Obj → Event → (Obj → Option PropertyRow → Option Wanted) → Option OutsideCall
 property_call files c p self line more =
-    in_class files c p.module p.class (λ k t.
-    with_self files c k t (self ∷ []) (λ o os. call_in files k line (more o (property_row (properties_of (items_at files k) t) p.name))))
+    in_class files c p.module p.class (λ here t.
+    with_self files c here (self ∷ []) (λ o os.
+    call_in files here.file line (more o (property_row (properties_of files here.file t) p.name))))
 
 abbrev pub set_value : Obj → Obj → Option PropertyRow → Option Wanted
 set_value v o r = setter_of o (value.Object v) (o ∷ v ∷ []) r

@@ -11,7 +11,6 @@ use Rattle.c_tree.specs.declared.name.Variable.{Variable}
 use Rattle.c_tree.specs.declared.value.CValue.{CValue}
 use Rattle.c_tree.specs.declared.value.CValue.TheVariants as operand
 use Rattle.c_tree.specs.declared.statement.FieldPlace.{FieldPlace}
-use Rattle.c_tree.specs.declared.item.StructTable.{StructTable}
 use Rattle.c_tree.specs.declared.item.CFile.{CFile}
 use Rattle.c_state.specs.declared.step.FaultKind.TheVariants as fault
 use Rattle.c_state.specs.declared.kind.Kind.{Kind}
@@ -73,8 +72,8 @@ store_field c p y k a v =
     (in_instance y.value (λ k. Does (field_change k p v.value old (lends (object_variable p.object) y ++ lends a v)))))))))
 
 -- `((struct cyc_root *)y)->vt = &cyc_t_M_K;`
-abbrev pub store_table : List CFile → CState → Variable → Numbered → Reading → StructTable → Planned
-store_table files c x class y t =
+abbrev pub store_table : CState → Variable → Numbered → Reading → Planned
+store_table c x class y =
     need (is_object y.kind) fault.Stuck
     (need_some (instance_of c y.value) fault.BadField (λ i.
     (need_strictly c (may_read c (object_variable x) y) fault.Unlocked

@@ -9,9 +9,11 @@ use Rattle.c_tree.specs.declared.name.Place.{Place}
 use Rattle.c_tree.specs.declared.name.Place.TheVariants as place
 use Rattle.c_tree.specs.declared.name.Variable.{Variable}
 use Rattle.c_tree.specs.declared.name.Variable.TheVariants as variable
+use Rattle.c_tree.specs.declared.name.TableName.{TableName}
+use Rattle.c_tree.specs.declared.name.TableName.TheVariants as table
 use Rattle.c_tree.specs.declared.name.FunctionName.{FunctionName}
 use Rattle.c_tree.specs.declared.name.FunctionName.TheVariants as function
-use Rattle.c_state.specs.declared.value.TypePlace.{TypePlace}
+use Rattle.c_state.specs.declared.value.ItemPlace.{ItemPlace}
 
 abbrev pub same_number : Numbered → Numbered → Bool
 same_number a b = nat_eq a.module b.module && nat_eq a.index b.index
@@ -19,8 +21,8 @@ same_number a b = nat_eq a.module b.module && nat_eq a.index b.index
 abbrev pub same_field : FieldNumber → FieldNumber → Bool
 same_field a b = same_number a.class b.class && nat_eq a.field b.field
 
-abbrev pub same_type : TypePlace → TypePlace → Bool
-same_type a b = nat_eq a.file b.file && same_number a.class b.class
+abbrev pub same_item : ItemPlace → ItemPlace → Bool
+same_item a b = nat_eq a.file b.file && nat_eq a.item b.item
 
 abbrev pub same_fixed : FixedParameter → FixedParameter → Bool
 same_fixed fixed.SelfObject fixed.SelfObject = true
@@ -50,6 +52,11 @@ same_variable variable.Returned variable.Returned = true
 same_variable (variable.Fixed p) (variable.Fixed q) = same_fixed p q
 same_variable (variable.Place p) (variable.Place q) = same_place p q
 same_variable _ _ = false
+
+abbrev pub same_table : TableName → TableName → Bool
+same_table table.OfFile table.OfFile = true
+same_table (table.OfClass a) (table.OfClass b) = same_number a b
+same_table _ _ = false
 
 abbrev pub same_function : FunctionName → FunctionName → Bool
 same_function (function.Plain a) (function.Plain b) = same_number a b

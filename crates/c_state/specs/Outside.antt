@@ -15,7 +15,7 @@ use Rattle.c_state.specs.declared.space.Course.TheVariants as course
 use Rattle.c_state.specs.declared.frame.Entered.TheVariants as entered
 use Rattle.c_state.specs.declared.frame.Making.{Making}
 use Rattle.c_state.specs.Linked.{name_of, function_at, next_initializer}
-use Rattle.c_state.specs.declared.change.FunctionPlace.{FunctionPlace}
+use Rattle.c_state.specs.declared.value.ItemPlace.{ItemPlace}
 use Rattle.c_state.specs.declared.change.Initialising.TheVariants as begins
 use Rattle.c_state.specs.State.{Frame, CState}
 use Rattle.c_state.specs.declared.change.Planned.{Planned}
@@ -60,7 +60,7 @@ name_in (Some fn) = module_of (name_of fn.head)
     module_of (function.Initializer n) = n
     module_of _ = []
 
-abbrev pub initialising : List CFile → FunctionPlace → Change
+abbrev pub initialising : List CFile → ItemPlace → Change
 initialising files p = record nothing {
   event = Some (event.Init (name_in (function_at files p)));
   initialising = begins.Begins p.file;
@@ -68,7 +68,7 @@ initialising files p = record nothing {
 }
 
 -- the next initialisation, of the next file that has one
-abbrev pub begin : List CFile → CState → Option Entry → Option FunctionPlace → Change
+abbrev pub begin : List CFile → CState → Option Entry → Option ItemPlace → Change
 begin files c e (Some p) = initialising files p
 begin files c e None = top files c e
 

@@ -20,13 +20,13 @@ use Rattle.c_tree.specs.declared.item.CFile.{CFile}
 use Rattle.cy_num.specs.declared.types.CNum.TheVariants as number
 use Rattle.c_state.specs.declared.kind.Kind.{Kind}
 use Rattle.c_state.specs.declared.kind.Kind.TheVariants as kind
-use Rattle.c_state.specs.declared.value.TypePlace.{TypePlace}
+use Rattle.c_state.specs.declared.value.ItemPlace.{ItemPlace}
 use Rattle.c_state.specs.declared.value.Value.{Value}
 use Rattle.c_state.specs.declared.value.Value.TheVariants as value
 use Rattle.c_state.specs.declared.value.Reading.{Reading}
 use Rattle.c_state.specs.declared.space.Spot.{Spot}
 use Rattle.c_state.specs.declared.frame.Cell.{Cell}
-use Rattle.c_state.specs.Linked.{items_at, module_name, type_at, type_named}
+use Rattle.c_state.specs.Linked.{module_name, type_at, type_named}
 use Rattle.c_state.specs.Values.{converts, objects_in}
 use Rattle.c_state.specs.State.{Frame, CState, is_module_variable, lookup, spot, spots_at}
 
@@ -86,11 +86,11 @@ abbrev pub class_object_of : Option TypeObject → Option Reading
 class_object_of None = None
 class_object_of (Some t) = gives kind.Object (value.Object (obj.Class (class_named t.name)))
 
-abbrev pub class_object : List CFile → Option TypePlace → Option Reading
+abbrev pub class_object : List CFile → Option ItemPlace → Option Reading
 class_object files None = None
 class_object files (Some t) = class_object_of (type_at files t)
 
-abbrev pub type_address : Option TypePlace → Option Reading
+abbrev pub type_address : Option ItemPlace → Option Reading
 type_address None = None
 type_address (Some t) = gives kind.TypeObject (value.TypeObject t allocation.Static)
 
@@ -111,7 +111,7 @@ read files c f operand.FalseObject = gives kind.Object (value.Object obj.FalseNo
 read files c f (operand.Exception e) = gives kind.Object (value.Object (obj.ExceptionType e))
 read files c f (operand.ClassObject n) = class_object files (type_named files f.file n)
 read files c f (operand.TypeAddress n) = type_address (type_named files f.file n)
-read files c f operand.Definition = definition_reading (module_name (items_at files f.file))
+read files c f operand.Definition = definition_reading (module_name files f.file)
 
 abbrev pub read_argument : List CFile → CState → Frame → Argument → Option Reading
 read_argument files c f (argument.Value k) = read files c f k

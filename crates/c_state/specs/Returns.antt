@@ -1,6 +1,10 @@
 -- `return k;` and `return;`: the result goes to the frame that called, or to the outside, with one reference where it is an
 -- object; the frame owns nothing else (Python/C API manual, "Reference Counts", "Exception Handling").
-use Rattle.std.specs.Prelude.{zero, Bool, true, false, not, ◌&&◌, ◌||◌, List, [], ◌∷◌, Option, Some, None, pos, negsuc, is_none, if◌then◌else◌}
+use Rattle.c_tree.specs.declared.name.Variable.{Variable}
+use Rattle.c_tree.specs.declared.name.Variable.TheVariants as variable
+use Rattle.c_tree.specs.declared.item.CHead.TheVariants as head
+use Rattle.c_tree.specs.declared.item.CHead.{CHead}
+use Rattle.std.specs.Prelude.{zero, Bool, true, false, not, ◌&&◌, ◌||◌, List, [], ◌∷◌, Option, Some, None, pos, negsuc, is_none, if◌then◌else◌, ℕ}
 use Rattle.api_model.specs.declared.object.Obj.{Obj}
 use Rattle.api_model.specs.declared.object.Obj.TheVariants as obj
 use Rattle.api_model.specs.declared.event.Event.{Event}
@@ -13,15 +17,14 @@ use Rattle.c_state.specs.declared.kind.Kind.TheVariants as kind
 use Rattle.c_state.specs.declared.value.Value.{Value}
 use Rattle.c_state.specs.declared.value.Value.TheVariants as value
 use Rattle.c_state.specs.declared.value.Reading.{Reading}
-use Rattle.c_state.specs.declared.space.Instance.{Instance}
 use Rattle.c_state.specs.declared.frame.Entered.{Entered}
 use Rattle.c_state.specs.declared.frame.Entered.TheVariants as entered
 use Rattle.c_state.specs.declared.frame.Doing.{Doing}
 use Rattle.c_state.specs.declared.frame.Doing.TheVariants as doing
 use Rattle.c_state.specs.Values.{converts, converted, is_set, object_of}
 use Rattle.c_ledger.specs.Ledger.{Account}
-use Rattle.c_state.specs.Ledger.{owned, own_first}
-use Rattle.c_state.specs.State.{Frame, CState, instance_at}
+use Rattle.c_state.specs.Ledger.{owned, lent, own_first}
+use Rattle.c_state.specs.State.{Frame, CState, instance_at, spot, spots_at}
 use Rattle.c_state.specs.declared.change.Planned.{Planned}
 use Rattle.c_state.specs.declared.change.Planned.TheVariants.{Fault, Does}
 use Rattle.c_state.specs.declared.change.Change.{Change}
@@ -29,7 +32,7 @@ use Rattle.c_state.specs.Planned.{need, need_some, need_strictly, nothing}
 use Rattle.c_state.specs.declared.change.ErrorChange.TheVariants as error
 use Rattle.c_state.specs.declared.change.Initialising.TheVariants as initialising
 use Rattle.c_state.specs.Reads.{lends, may_read}
-use Rattle.c_state.specs.Stores.{give_to_by, is_tuple}
+use Rattle.c_state.specs.Stores.{give_to_by, is_tuple, spot_may_store, spot_may_write}
 use Rattle.c_state.specs.Calls.{result_kind}
 
 -- ---- failure
@@ -62,17 +65,21 @@ is_just [] None = true
 is_just (x ∷ []) (Some o) = same_obj x o
 is_just _ _ = false
 
-abbrev pub is_gone : Option Instance → Bool
-is_gone None = true
-is_gone (Some i) = false
+abbrev pub is_gone : CState → Obj → Bool
+is_gone c (obj.Inst k) = is_none (instance_at c k)
+is_gone c o = true
 
--- dealloc code has freed its instance
-abbrev pub has_freed : CState → Entered → Bool
-has_freed c (entered.ForDestruction k) = is_gone (instance_at c k)
-has_freed c _ = true
+abbrev pub are_gone : CState → List Obj → Bool
+are_gone c [] = true
+are_gone c (o ∷ os) = is_gone c o && are_gone c os
+
+-- dealloc code has freed the instance that was lent to it
+abbrev pub has_freed : CState → CHead → Bool
+has_freed c (head.Dealloc n) = are_gone c (lent c.thread.ledger)
+has_freed c h = true
 
 abbrev pub is_balanced : CState → Frame → Option Obj → Bool
-is_balanced c f result = is_just (owned c.thread.ledger) result && has_freed c f.entered
+is_balanced c f result = is_just (owned c.thread.ledger) result && has_freed c f.function.head
 
 abbrev pub same_lock : Bool → Bool → Bool
 same_lock true b = b
@@ -84,9 +91,9 @@ abbrev pub refs : Option Obj → List Obj
 refs None = []
 refs (Some o) = o ∷ []
 
--- the frame is left; the loans that the result's reading made
-abbrev pub leaving : List Obj → Change
-leaving os = record nothing { leaves = true; lends = os }
+-- a frame that C didn't call is left: no loan outlives it
+abbrev pub leaving : Change
+leaving = record nothing { leaves = true; ends_loans = true }
 
 -- what a waiting frame owns, by the accounts from its own on
 abbrev pub own_of_caller : List Account → List Obj
@@ -117,33 +124,58 @@ or_foreign None = obj.Foreign 0
 or_foreign (Some o) = o
 
 -- to the outside: a failure hands the exception over
-abbrev pub to_outside : CState → Value → List Obj → Change
-to_outside c v os =
+abbrev pub to_outside : CState → Value → Change
+to_outside c v =
     if is_failure v
-    then record (leaving os) { event = Some (event.LeaveRaise (or_foreign c.thread.error)); error = error.Clears }
-    else record (leaving os) { event = Some (leave_event v) }
+    then record leaving { event = Some (event.LeaveRaise (or_foreign c.thread.error)); error = error.Clears }
+    else record leaving { event = Some (leave_event v) }
 
 abbrev pub from_initialisation : Value → Change → Change
 from_initialisation v d = if is_failure v then record d { initialising = initialising.Fails } else d
 
 abbrev pub hand : CState → Entered → Value → List Obj → Planned
 hand c entered.FromC v os = to_caller c c.thread.frames v os (object_of v)
-hand c entered.FromOutside v os = Does (to_outside c v os)
-hand c entered.ForInitialisation v os = Does (from_initialisation v (to_outside c v os))
-hand c (entered.ForDestruction k) v os = Does (leaving os)
+hand c entered.FromOutside v os = Does (to_outside c v)
+hand c entered.ForInitialisation v os = Does (from_initialisation v (to_outside c v))
+hand c entered.ForDestruction v os = Does leaving
+
+-- where the result of a frame that C called goes, if it goes to a place: it may be stored there, and the lock allows it
+abbrev pub place_of_caller : List Frame → Option Variable
+place_of_caller (f ∷ g ∷ gs) = by_doing g.doing
+  where
+    by_doing : Doing → Option Variable
+    by_doing (doing.Waits x) = x
+    by_doing _ = None
+place_of_caller _ = None
+
+abbrev pub file_of_caller : List Frame → ℕ
+file_of_caller (f ∷ g ∷ gs) = g.file
+file_of_caller _ = 0
+
+abbrev pub takes_result : CState → Entered → (CState → ℕ → Option Variable → Bool) → Bool
+takes_result c entered.FromC test = test c (file_of_caller c.thread.frames) (place_of_caller c.thread.frames)
+takes_result c _ test = true
+
+abbrev pub may_store_in : CState → ℕ → Option Variable → Bool
+may_store_in c k (Some (variable.Place p)) = spot_may_store (spot (spots_at c k) p)
+may_store_in c k x = true
+
+abbrev pub may_write_in : CState → ℕ → Option Variable → Bool
+may_write_in c k (Some (variable.Place p)) = spot_may_write c (spot (spots_at c k) p)
+may_write_in c k x = true
 
 -- ---- the statements
 
 abbrev pub return_of : CState → Frame → Kind → CValue → Reading → Value → Planned
 return_of c f k a w v =
-    need_strictly c (may_read c a w && same_lock c.shared.lock f.lock) fault.Unlocked
+    need_strictly c (may_read c a w && (same_lock c.shared.lock f.lock && takes_result c f.entered may_write_in)) fault.Unlocked
     (need (success_is_clean c f k v) fault.ErrorSet
     (need (failure_is_set c f k v) fault.ErrorLost
     (need_strictly c (is_balanced c f (object_of v)) fault.Unbalanced (hand c f.entered v (lends a w)))))
 
 abbrev pub return_kind : CState → Frame → CValue → Reading → Kind → Planned
 return_kind c f a w k =
-    need (converts w.kind k && not (is_tuple w.value)) fault.Stuck
+    need (converts w.kind k && (not (is_tuple w.value) && takes_result c f.entered may_store_in)) fault.Stuck
     (need (is_set w.value) fault.Undefined (return_of c f k a w (converted k w.value)))
 
 -- `return k;`
@@ -160,7 +192,7 @@ nothing_to_caller _ = Fault fault.Stuck
 
 abbrev pub hand_nothing : CState → Entered → Planned
 hand_nothing c entered.FromC = nothing_to_caller c.thread.frames
-hand_nothing c _ = Does (leaving [])
+hand_nothing c _ = Does leaving
 
 -- `return;`
 abbrev pub return_nothing : CState → Frame → Planned

@@ -1,8 +1,7 @@
 -- Calls of the Python/C API that ask the outside: their operands, the operation, and the tests before it (Python/C API
 -- manual; the table of rows is api_model's).
-use Rattle.std.specs.Prelude.{ℕ, zero, suc, Bool, true, false, not, ◌&&◌, ◌||◌, List, [], ◌∷◌, Option, Some, None, ℤ, pos, negsuc, nat_eq, length, is_none, if◌then◌else◌}
+use Rattle.std.specs.Prelude.{ℕ, zero, suc, Bool, true, false, not, ◌&&◌, ◌||◌, List, [], ◌∷◌, Option, Some, None, ℤ, pos, negsuc, nat_eq, length, is_none, is_some, if◌then◌else◌}
 use Rattle.cy_num.specs.declared.types.CNum.TheVariants as number
-use Rattle.cy_num.specs.Wrapping.{wrap}
 use Rattle.api_model.specs.declared.object.ClassName.{ClassName}
 use Rattle.api_model.specs.declared.object.Obj.{Obj}
 use Rattle.api_model.specs.declared.event.Event.TheVariants as event
@@ -34,7 +33,7 @@ use Rattle.c_state.specs.declared.frame.Doing.TheVariants as doing
 use Rattle.c_state.specs.declared.change.ErrorChange.{ErrorChange}
 use Rattle.c_state.specs.declared.change.ErrorChange.TheVariants as error
 use Rattle.c_state.specs.Linked.{type_at}
-use Rattle.c_state.specs.Values.{int, size, is_null, all_set, passed, values_of, fits}
+use Rattle.c_state.specs.Values.{converted, int, size, is_null, all_set, passed, values_of, fits}
 use Rattle.c_state.specs.State.{Frame, CState, all_held}
 use Rattle.c_state.specs.declared.change.Planned.{Planned}
 use Rattle.c_state.specs.declared.change.Planned.TheVariants.{Does}
@@ -121,15 +120,29 @@ operands api.TupleSize vs = objects 1
 operands api.TupleItem vs = kind.Object ∷ size ∷ []
 operands api.FormatTest vs = kind.Text ∷ kind.Text ∷ []
 
--- no NULL, and no arguments of an `__init__`, where an object or a type is needed
+-- no NULL, and no arguments of an `__init__`, where an object, a type or a text is needed
 abbrev pub is_needed : Kind → Value → Bool
 is_needed kind.Object v = not (is_null v || is_tuple v)
 is_needed kind.TypeObject v = not (is_null v)
+is_needed kind.Text v = not (is_null v)
 is_needed _ v = true
 
 abbrev pub are_needed : List Kind → List Reading → Bool
 are_needed (k ∷ ks) (v ∷ vs) = is_needed k v.value && are_needed ks vs
 are_needed _ _ = true
+
+-- operands as they are where they meet the types
+abbrev pub converted_by : List Kind → List Value → List Value
+converted_by (k ∷ ks) (v ∷ vs) = converted k v ∷ converted_by ks vs
+converted_by ks vs = vs
+
+abbrev pub values_by : Api → List Reading → List Value
+values_by a vs = converted_by (operands a vs) (values_of vs)
+
+-- what a text is to C: its bytes up to the first 0 (ISO/IEC 9899:2011 7.1.1)
+abbrev pub c_string : List ℕ → List ℕ
+c_string [] = []
+c_string (b ∷ bs) = if nat_eq b 0 then [] else b ∷ c_string bs
 
 -- ---- operations
 
@@ -181,16 +194,6 @@ objects_of [] = []
 objects_of (value.Object o ∷ vs) = o ∷ objects_of vs
 objects_of (v ∷ vs) = []
 
--- the number of objects packed, or of bytes of a text, is told
-abbrev pub if_told : ℤ → ℕ → Op → Option Op
-if_told (pos n) m o = if nat_eq n m then Some o else None
-if_told (negsuc n) m o = None
-
--- digits of base 10
-abbrev pub if_ten : ℤ → Op → Option Op
-if_ten (pos n) o = if nat_eq n 10 then Some o else None
-if_ten (negsuc n) o = None
-
 abbrev pub one_object : (Obj → Op) → List Value → Option Op
 one_object o (x ∷ []) = with_object x (λ a. Some (o a))
 one_object o _ = None
@@ -220,16 +223,16 @@ call_of [] = None
 call_of (f ∷ vs) = with_object f (λ o. Some (op.Call o (objects_of vs)))
 
 abbrev pub bigint_of : List Value → Option Op
-bigint_of (x ∷ y ∷ z ∷ []) = with_text x (λ t. with_number z (λ n. if_ten n (op.Make (make.BigInt t))))
+bigint_of (x ∷ y ∷ z ∷ []) = with_text x (λ t. Some (op.Make (make.BigInt (c_string t))))
 bigint_of _ = None
 
 abbrev pub str_of : List Value → Option Op
-str_of (x ∷ z ∷ []) = with_text x (λ t. with_number z (λ n. if_told n (length t) (op.Make (make.Str t))))
+str_of (x ∷ z ∷ []) = with_text x (λ t. Some (op.Make (make.Str t)))
 str_of _ = None
 
 abbrev pub tuple_of : List Value → Option Op
 tuple_of [] = None
-tuple_of (z ∷ vs) = with_number z (λ n. if_told n (length vs) (op.Make (make.TupleOf (objects_of vs))))
+tuple_of (z ∷ vs) = Some (op.Make (make.TupleOf (objects_of vs)))
 
 abbrev pub module_of : List Value → Option Op
 module_of (x ∷ []) = with_definition x (λ n. Some (op.Make (make.Module n)))
@@ -244,11 +247,11 @@ ready_of files (x ∷ []) = with_type files x (λ n. Some (op.Change (change.Rea
 ready_of files _ = None
 
 abbrev pub add_object_of : List Value → Option Op
-add_object_of (x ∷ y ∷ z ∷ []) = with_object x (λ a. with_text y (λ t. with_object z (λ b. Some (op.Change (change.AddObject a t b)))))
+add_object_of (x ∷ y ∷ z ∷ []) = with_object x (λ a. with_text y (λ t. with_object z (λ b. Some (op.Change (change.AddObject a (c_string t) b)))))
 add_object_of _ = None
 
 abbrev pub fail_of : List Value → Option Op
-fail_of (x ∷ y ∷ []) = with_object x (λ a. with_text y (λ t. Some (op.Fail a t)))
+fail_of (x ∷ y ∷ []) = with_object x (λ a. with_text y (λ t. Some (op.Fail a (c_string t))))
 fail_of _ = None
 
 -- the operation that a row asks of these values
@@ -261,14 +264,14 @@ op_of files api.GetItem vs = two_objects op.GetItem vs
 op_of files api.GetIter vs = one_object op.Iter vs
 op_of files api.RichCompare vs = compare_of vs
 op_of files api.CallFunctionObjArgs vs = call_of vs
-op_of files api.FromLong vs = one_number (λ z. op.Make (make.Int (wrap number.I64 z))) vs
-op_of files api.FromUnsignedLong vs = one_number (λ z. op.Make (make.Uint (magnitude (wrap number.U64 z)))) vs
+op_of files api.FromLong vs = one_number (λ z. op.Make (make.Int z)) vs
+op_of files api.FromUnsignedLong vs = one_number (λ z. op.Make (make.Uint (magnitude z))) vs
 op_of files api.FromString vs = bigint_of vs
 op_of files api.FromStringAndSize vs = str_of vs
 op_of files api.TuplePack vs = tuple_of vs
-op_of files api.ListNew vs = one_number (λ z. op.Make (make.ListOfLength (wrap number.I64 z))) vs
+op_of files api.ListNew vs = one_number (λ z. op.Make (make.ListOfLength z)) vs
 op_of files api.DictNew vs = Some (op.Make make.EmptyDict)
-op_of files api.ImportModule vs = one_text (λ t. op.Make (make.Import t)) vs
+op_of files api.ImportModule vs = one_text (λ t. op.Make (make.Import (c_string t))) vs
 op_of files api.ModuleCreate vs = module_of vs
 op_of files api.MemoryViewFromObject vs = one_object op.View vs
 op_of files api.GenericAlloc vs = alloc_of files vs
@@ -351,16 +354,38 @@ asking a r x vs o = record nothing {
   doing = Some (doing.Asks o r (making_of a vs) x);
 }
 
--- what an unset operand would be doesn't matter to the tests of what is Stuck
-abbrev pub is_asked : List CFile → Api → List Reading → Bool
-is_asked files a vs = not (all_set vs) || not (is_none (op_of files a (values_of vs)))
+-- Numbers and texts among the operands, as far as they are set: a comparison from 0 to 5, base 10, as many bytes as the text
+-- has, as many objects as are packed.
+abbrev pub is_number_of : ℕ → Value → Bool
+is_number_of n (value.Number (pos m)) = nat_eq n m
+is_number_of n (value.Number (negsuc m)) = false
+is_number_of n v = true
+
+abbrev pub is_comparison : Value → Bool
+is_comparison (value.Number z) = is_some (comparison_of z)
+is_comparison v = true
+
+abbrev pub is_length_of : Value → Value → Bool
+is_length_of (value.Text t) n = is_number_of (length t) n
+is_length_of v n = true
+
+abbrev pub suit_values : Api → List Value → Bool
+suit_values api.RichCompare (x ∷ y ∷ z ∷ []) = is_comparison z
+suit_values api.FromString (x ∷ y ∷ z ∷ []) = is_number_of 10 z
+suit_values api.FromStringAndSize (x ∷ z ∷ []) = is_length_of x z
+suit_values api.TuplePack (z ∷ vs) = is_number_of (length vs) z
+suit_values a vs = true
+
+-- whether the operands are those of a row
+abbrev pub suit_row : Api → List Reading → Bool
+suit_row a vs = fits (operands a vs) vs && (are_needed (operands a vs) vs && suit_values a (values_by a vs))
 
 -- `x = Py..(k, ..);` where the script is asked
 abbrev pub ask : List CFile → CState → Frame → Option Variable → Api → ApiRow → List Argument → List Reading → Planned
 ask files c f x a r ks vs =
-    need (fits (operands a vs) vs && (are_needed (operands a vs) vs && (is_asked files a vs && receives_row c f x (given_by r.gives a)))) fault.Stuck
+    need (suit_row a vs && receives_row c f x (given_by r.gives a)) fault.Stuck
     (need (all_set vs) fault.Undefined
     (need_strictly c c.shared.lock fault.Unlocked
     (need (may_run c a r) (clean_fault r)
     (need_strictly c (all_held c (passed vs)) fault.Unheld
-    (need_some (op_of files a (values_of vs)) fault.Stuck (λ o. Does (asking a r x (values_of vs) o)))))))
+    (need_some (op_of files a (values_by a vs)) fault.Stuck (λ o. Does (asking a r x (values_by a vs) o)))))))

@@ -20,7 +20,7 @@ use Rattle.c_tree.specs.declared.item.CItem.{CItem}
 use Rattle.c_tree.specs.declared.item.CItem.TheVariants as item
 use Rattle.c_tree.specs.declared.item.CFile.{CFile}
 use Rattle.c_state.specs.declared.kind.Kind.{Kind}
-use Rattle.c_state.specs.declared.value.TypePlace.{TypePlace}
+use Rattle.c_state.specs.declared.value.ItemPlace.{ItemPlace}
 use Rattle.c_state.specs.declared.value.Value.{Value}
 use Rattle.c_state.specs.declared.value.Value.TheVariants as value
 use Rattle.c_state.specs.declared.space.Spot.{Spot}
@@ -28,6 +28,7 @@ use Rattle.c_state.specs.declared.space.Part.{Part}
 use Rattle.c_state.specs.declared.space.Instance.{Instance}
 use Rattle.c_state.specs.declared.space.Course.{Course}
 use Rattle.c_state.specs.declared.space.Course.TheVariants as course
+use Rattle.c_state.specs.declared.change.Remembered.{Remembered}
 use Rattle.c_state.specs.declared.frame.Cell.{Cell}
 use Rattle.c_state.specs.declared.frame.Entered.{Entered}
 use Rattle.c_state.specs.declared.frame.Doing.{Doing}
@@ -58,16 +59,17 @@ pub record Shared : Type 0 where
   pub lock : Bool
 
 -- What is one thread's own: the frames, the newest first; the ledger; the exception that is set; the states of the lock
--- that are remembered, the newest first; how many entries of the script are taken; whether it is at its end.
+-- that are remembered, the newest first, and how many were asked for; how many entries of the script are taken; whether it is at its end.
 pub record Thread : Type 0 where
   pub frames : List Frame
   pub ledger : Ledger
   pub error : Option Obj
-  pub remembered : List Bool
+  pub remembered : List Remembered
+  pub ensured : ℕ
   pub taken : ℕ
   pub course : Course
 
--- The state. Where it isn't strict, ownership and the lock are no faults, and no instance is destroyed.
+-- The state. Where it isn't strict, ownership and the lock are no faults, and no entry destroys an instance.
 pub record CState : Type 0 where
   pub shared : Shared
   pub thread : Thread
@@ -90,8 +92,11 @@ set_ledger t ledger = record t { ledger = ledger }
 abbrev pub set_error : Thread → Option Obj → Thread
 set_error t error = record t { error = error }
 
-abbrev pub set_remembered : Thread → List Bool → Thread
+abbrev pub set_remembered : Thread → List Remembered → Thread
 set_remembered t remembered = record t { remembered = remembered }
+
+abbrev pub set_ensured : Thread → ℕ → Thread
+set_ensured t ensured = record t { ensured = ensured }
 
 abbrev pub set_taken : Thread → ℕ → Thread
 set_taken t taken = record t { taken = taken }
@@ -126,8 +131,11 @@ with_ledger ledger c = with_thread c (set_ledger c.thread ledger)
 abbrev pub with_error : Option Obj → CState → CState
 with_error error c = with_thread c (set_error c.thread error)
 
-abbrev pub with_remembered : List Bool → CState → CState
+abbrev pub with_remembered : List Remembered → CState → CState
 with_remembered remembered c = with_thread c (set_remembered c.thread remembered)
+
+abbrev pub with_ensured : ℕ → CState → CState
+with_ensured ensured c = with_thread c (set_ensured c.thread ensured)
 
 abbrev pub with_taken : ℕ → CState → CState
 with_taken taken c = with_thread c (set_taken c.thread taken)
@@ -260,7 +268,7 @@ parts_by files None = []
 parts_by files (Some t) = first_parts files (item_count files) t.size
 
 -- an instance as it is made (Python/C API manual, `PyType_GenericAlloc`)
-abbrev pub new_instance : List CFile → TypePlace → Allocation → Instance
+abbrev pub new_instance : List CFile → ItemPlace → Allocation → Instance
 new_instance files t allocation = record {
   class = t;
   allocation = allocation;
@@ -317,6 +325,7 @@ first_thread = record {
   ledger = empty_ledger;
   error = None;
   remembered = [];
+  ensured = 0;
   taken = 0;
   course = course.Goes;
 }

@@ -30,7 +30,7 @@ use Rattle.c_state.specs.declared.value.Reading.{Reading}
 use Rattle.c_state.specs.declared.frame.Making.TheVariants as making
 use Rattle.c_state.specs.declared.frame.Doing.TheVariants as doing
 use Rattle.c_state.specs.Names.{same_number}
-use Rattle.c_state.specs.Linked.{function_named, items_at, table_of}
+use Rattle.c_state.specs.Linked.{function_named, items_at, table_named}
 use Rattle.c_state.specs.Values.{int, is_set}
 use Rattle.api_model.specs.declared.entry.Entry.{Entry}
 use Rattle.c_state.specs.State.{Frame, CState, in_frame}
@@ -119,8 +119,8 @@ act files script c f (stmt.LoadField x p) = field_statement files c f p (load_fi
 act files script c f (stmt.StoreField p k) =
     field_statement files c f p (λ y t. need_some (read files c f k) fault.Stuck (store_field c p y t k))
 act files script c f (stmt.StoreTable y class) =
-    need_some (table_of files class) fault.Stuck (λ t.
-    need_some (variable_reading c f y) fault.Stuck (λ v. store_table files c y class v t))
+    need (is_some (table_named files class)) fault.Stuck
+    (need_some (variable_reading c f y) fault.Stuck (store_table c y class))
 act files script c f (stmt.CallMethod x class y j ks) =
     need_some (variable_reading c f y) fault.Stuck (λ v.
     need_some (read_each files c f ks) fault.Stuck (call_method files c f x class y j v ks))

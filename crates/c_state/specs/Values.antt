@@ -1,6 +1,7 @@
 -- Types and values: what may stand where, what a place starts with, the objects in a value. The project's own, after ISO/IEC
 -- 9899:2011 (6.3, 6.5.16.1, 6.7.9).
-use Rattle.std.specs.Prelude.{ℕ, zero, suc, Bool, true, false, ◌&&◌, ◌||◌, List, [], ◌∷◌, ◌++◌, Option, Some, None, ℤ, pos, negsuc, nat_eq}
+use Rattle.c_state.specs.declared.value.Buffer.{Buffer}
+use Rattle.std.specs.Prelude.{ℕ, zero, suc, Bool, true, false, ◌&&◌, ◌||◌, List, [], ◌∷◌, ◌++◌, Option, Some, None, ℤ, pos, negsuc, nat_eq, is_some}
 use Rattle.cy_num.specs.declared.types.CNum.{CNum}
 use Rattle.cy_num.specs.declared.types.CNum.TheVariants as number
 use Rattle.cy_num.specs.Wrapping.{wrap}
@@ -24,7 +25,7 @@ use Rattle.c_state.specs.declared.value.Value.{Value}
 use Rattle.c_state.specs.declared.value.Value.TheVariants as value
 use Rattle.c_state.specs.declared.value.Reading.{Reading}
 use Rattle.api_model.specs.Objects.{same_obj}
-use Rattle.c_state.specs.Names.{same_type}
+use Rattle.c_state.specs.Names.{same_item}
 
 -- ---- types
 
@@ -85,18 +86,38 @@ converts kind.Closure kind.Closure = true
 converts kind.Null kind.Closure = true
 converts kind.Null kind.Null = true
 converts kind.Text kind.Text = true
+converts kind.Null kind.Text = true
 converts kind.Definition kind.Definition = true
 converts _ _ = false
 
--- whether two pointers may be compared: one of them is NULL, or both are of one type
+-- types of pointers that may be compared
 abbrev pub is_pointer : Kind → Bool
 is_pointer kind.Object = true
 is_pointer kind.ThreadState = true
 is_pointer kind.TypeObject = true
 is_pointer kind.Closure = true
+is_pointer kind.Arguments = true
 is_pointer kind.Null = true
 is_pointer _ = false
 
+abbrev pub same_number_type : CNum → CNum → Bool
+same_number_type number.I8 number.I8 = true
+same_number_type number.U8 number.U8 = true
+same_number_type number.I16 number.I16 = true
+same_number_type number.U16 number.U16 = true
+same_number_type number.I32 number.I32 = true
+same_number_type number.U32 number.U32 = true
+same_number_type number.I64 number.I64 = true
+same_number_type number.U64 number.U64 = true
+same_number_type _ _ = false
+
+abbrev pub same_kind : Kind → Kind → Bool
+same_kind (kind.Number t) (kind.Number u) = same_number_type t u
+same_kind j (kind.Number u) = false
+same_kind (kind.Number t) k = false
+same_kind j k = converts j k && converts k j
+
+-- whether two pointers may be compared: one of them is NULL, or both are of one type
 abbrev pub are_pointers : Kind → Kind → Bool
 are_pointers a b = (is_pointer a && is_pointer b) && (converts a b || converts b a)
 
@@ -111,8 +132,25 @@ abbrev pub converted : Kind → Value → Value
 converted (kind.Number t) v = wrapped t v
 converted _ v = v
 
+abbrev pub is_memory_set : Memory → Bool
+is_memory_set memory.Unset = false
+is_memory_set _ = true
+
+abbrev pub is_buffer_set : Buffer → Bool
+is_buffer_set buffer.Unset = false
+is_buffer_set _ = true
+
+abbrev pub is_extent_set : Extents → Bool
+is_extent_set e = is_some e.first || (is_some e.second || is_some e.third)
+
+-- whether a part was stored into
+abbrev pub is_view_set : ViewValue → Bool
+is_view_set v = is_memory_set v.memory || (is_buffer_set v.buffer || (is_extent_set v.lengths || is_extent_set v.strides))
+
+-- whether a variable has a value; a view has one once a part of it was stored into (6.3.2.1)
 abbrev pub is_set : Value → Bool
 is_set value.Unset = false
+is_set (value.View v) = is_view_set v
 is_set _ = true
 
 abbrev pub is_null : Value → Bool
@@ -192,9 +230,10 @@ same_allocation _ _ = false
 -- whether two pointers are equal
 abbrev pub same_pointer : Value → Value → Bool
 same_pointer (value.Object x) (value.Object y) = same_obj x y
-same_pointer (value.TypeObject s a) (value.TypeObject t b) = same_type s t && same_allocation a b
+same_pointer (value.TypeObject s a) (value.TypeObject t b) = same_item s t && same_allocation a b
 same_pointer value.ThreadState value.ThreadState = true
 same_pointer (value.Tuple xs) (value.Tuple ys) = true
+same_pointer (value.Arguments xs) (value.Arguments ys) = true
 same_pointer value.Null value.Null = true
 same_pointer _ _ = false
 

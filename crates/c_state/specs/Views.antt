@@ -17,14 +17,13 @@ use Rattle.c_state.specs.declared.step.FaultKind.TheVariants as fault
 use Rattle.c_state.specs.declared.kind.Kind.{Kind}
 use Rattle.c_state.specs.declared.kind.Kind.TheVariants as kind
 use Rattle.c_state.specs.declared.value.Memory.{Memory}
-use Rattle.c_state.specs.declared.value.Memory.TheVariants as memory
 use Rattle.c_state.specs.declared.value.Buffer.{Buffer}
 use Rattle.c_state.specs.declared.value.Buffer.TheVariants as buffer
 use Rattle.c_state.specs.declared.value.ViewValue.{ViewValue}
 use Rattle.c_state.specs.declared.value.Value.{Value}
 use Rattle.c_state.specs.declared.value.Value.TheVariants as value
 use Rattle.c_state.specs.declared.value.Reading.{Reading}
-use Rattle.c_state.specs.Values.{size, is_number, is_object, is_view, is_set, unset_view, objects_in, memory_value, as_memory, extents_at, with_extent, extents_of, with_extents}
+use Rattle.c_state.specs.Values.{is_buffer_set, is_memory_set, size, is_number, is_object, is_view, is_set, unset_view, objects_in, memory_value, as_memory, extents_at, with_extent, extents_of, with_extents}
 use Rattle.c_state.specs.Ledger.{owned}
 use Rattle.c_state.specs.State.{Frame, CState}
 use Rattle.c_state.specs.declared.change.Planned.{Planned}
@@ -33,7 +32,7 @@ use Rattle.c_state.specs.declared.change.Change.{Change}
 use Rattle.c_state.specs.Planned.{need, need_some, need_strictly, lending}
 use Rattle.c_state.specs.declared.change.SpaceChange.TheVariants as space
 use Rattle.c_state.specs.Reads.{variable_reading, lends, may_read}
-use Rattle.c_state.specs.Stores.{give, is_tuple, may_write_to, owns_moved, field_kind, field_value}
+use Rattle.c_state.specs.Stores.{give, is_tuple, may_store_to, may_write_to, owns_moved, field_kind, field_value}
 use Rattle.c_state.specs.Fields.{object_variable, uses, is_plain}
 use Rattle.c_state.specs.Buffers.{goes_to, told_by}
 
@@ -50,6 +49,11 @@ is_object_reading (Some v) = is_object v.kind
 abbrev pub is_view_kind : Option Kind → Bool
 is_view_kind None = false
 is_view_kind (Some k) = is_view k
+
+-- a constant place is stored into once
+abbrev pub may_store_at : CState → Frame → ViewPlace → Bool
+may_store_at c f (where_it_is.Variable x) = may_store_to c f x
+may_store_at c f (where_it_is.Field p) = true
 
 -- whether it is a view by its type
 abbrev pub is_view_place : List CFile → CState → Frame → ViewPlace → Bool
@@ -114,6 +118,10 @@ abbrev pub lends_at : CState → Frame → ViewPlace → List Obj
 lends_at c f (where_it_is.Variable x) = []
 lends_at c f (where_it_is.Field p) = lends_read p.object (variable_reading c f p.object)
 
+-- the loan that reading a part makes, where `mv` is a reference that is held there
+abbrev pub reads_at : CState → Frame → ViewPlace → List Obj
+reads_at c f p = if is_shared p then objects_in (memory_value (view_at c f p).memory) else []
+
 -- a view goes there, beside other changes
 abbrev pub view_field : Value → FieldPlace → ViewValue → Change → Planned
 view_field (value.Object (obj.Inst k)) p v d = Does (record d { space = space.Field k p.class p.field (value.View v) })
@@ -125,10 +133,6 @@ set_view c f (where_it_is.Field p) v d = view_field (value_read (variable_readin
 
 -- ---- `buf`
 
-abbrev pub is_buffer_set : Buffer → Bool
-is_buffer_set buffer.Unset = false
-is_buffer_set _ = true
-
 abbrev pub with_buffer : Buffer → ViewValue → ViewValue
 with_buffer b v = record v { buffer = b }
 
@@ -139,7 +143,7 @@ buffer_of _ = None
 -- `v.buf = (char *)PyMemoryView_GET_BUFFER(y)->buf;`
 abbrev pub take_buffer : List CFile → CState → Frame → ViewPlace → Variable → Reading → Planned
 take_buffer files c f p object y =
-    need (is_plain y && (is_view_place files c f p && (not (is_set y.value) || not (is_none (buffer_of y.value))))) fault.Stuck
+    need (is_plain y && (is_view_place files c f p && may_store_at c f p && (not (is_set y.value) || not (is_none (buffer_of y.value))))) fault.Stuck
     (need (is_there c f p) fault.BadField
     (told_by c y true (buffer_of y.value) (λ b.
     (need_strictly c (is_held c f p) fault.Unheld
@@ -148,12 +152,12 @@ take_buffer files c f p object y =
 -- `v.buf = w.buf;`
 abbrev pub copy_buffer : List CFile → CState → Frame → ViewPlace → ViewPlace → Planned
 copy_buffer files c f p q =
-    need (is_view_place files c f p && is_view_place files c f q) fault.Stuck
+    need (is_view_place files c f p && (may_store_at c f p && is_view_place files c f q)) fault.Stuck
     (need (is_there c f p && is_there c f q) fault.BadField
     (need (is_buffer_set (view_at c f q).buffer) fault.Undefined
     (need_strictly c (is_open c f p && is_open c f q) fault.Unlocked
     (need_strictly c (is_held c f p && is_held c f q) fault.Unheld
-    (set_view c f p (with_buffer (view_at c f q).buffer (view_at c f p)) (lending (lends_at c f q ++ lends_at c f p)))))))
+    (set_view c f p (with_buffer (view_at c f q).buffer (view_at c f p)) (lending (lends_at c f q ++ (reads_at c f q ++ lends_at c f p))))))))
 
 abbrev pub moved_by : Buffer → Value → Option Buffer
 moved_by (buffer.At k at) (value.Number z) = Some (buffer.At k (at +ℤ z))
@@ -162,21 +166,17 @@ moved_by _ _ = None
 -- `v.buf = v.buf + k;`, which is undefined at NULL (ISO/IEC 9899:2011 6.5.6)
 abbrev pub move_buffer : List CFile → CState → Frame → ViewPlace → CValue → Reading → Planned
 move_buffer files c f p k v =
-    need (is_view_place files c f p && is_number v.kind) fault.Stuck
+    need (is_view_place files c f p && (may_store_at c f p && is_number v.kind)) fault.Stuck
     (need (is_there c f p) fault.BadField
     (need_some (moved_by (view_at c f p).buffer v.value) fault.Undefined (λ b.
     (need_strictly c (is_open c f p && may_read c k v) fault.Unlocked
     (need_strictly c (is_held c f p) fault.Unheld
-    (set_view c f p (with_buffer b (view_at c f p)) (lending (lends_at c f p))))))))
+    (set_view c f p (with_buffer b (view_at c f p)) (lending (lends_at c f p ++ reads_at c f p))))))))
 
 -- ---- `mv`
 
 abbrev pub with_memory : Memory → ViewValue → ViewValue
 with_memory m v = record v { memory = m }
-
-abbrev pub is_memory_set : Memory → Bool
-is_memory_set memory.Unset = false
-is_memory_set _ = true
 
 abbrev pub owns_stored : CState → ViewPlace → Value → Bool
 owns_stored c p v = not (is_shared p) || owns_moved (owned c.thread.ledger) v
@@ -194,16 +194,12 @@ store_memory_of c f p k v (Some m) =
 -- `v.mv = k;`
 abbrev pub store_memory : List CFile → CState → Frame → ViewPlace → CValue → Reading → Planned
 store_memory files c f p k v =
-    need (is_view_place files c f p && (is_object v.kind && not (is_tuple v.value))) fault.Stuck
+    need (is_view_place files c f p && (may_store_at c f p && (is_object v.kind && not (is_tuple v.value)))) fault.Stuck
     (need (is_there c f p) fault.BadField
     (need (is_set v.value) fault.Undefined
     (need_strictly c (is_open c f p && may_read c k v) fault.Unlocked
     (need_strictly c (is_held c f p && owns_stored c p v.value) fault.Unheld
     (store_memory_of c f p k v (as_memory v.value))))))
-
--- the loan that reading `mv` makes
-abbrev pub memory_lends : CState → Frame → ViewPlace → List Obj
-memory_lends c f p = if is_shared p then objects_in (memory_value (view_at c f p).memory) else []
 
 -- `x = v.mv;`
 abbrev pub load_memory : List CFile → CState → Frame → Variable → ViewPlace → Planned
@@ -213,7 +209,7 @@ load_memory files c f x p =
     (need (is_memory_set (view_at c f p).memory) fault.Undefined
     (need_strictly c (is_open c f p && may_write_to c f x) fault.Unlocked
     (need_strictly c (is_held c f p) fault.Unheld
-    (give c f x (memory_value (view_at c f p).memory) (lending (lends_at c f p ++ memory_lends c f p)))))))
+    (give c f x (memory_value (view_at c f p).memory) (lending (lends_at c f p ++ reads_at c f p)))))))
 
 -- ---- `n[J]` and `s[J]`
 
@@ -233,7 +229,7 @@ with_number_at e j z v = with_extents v e (with_extent (extents_of v e) j z)
 -- `v.n[J] = k;`
 abbrev pub store_extent : List CFile → CState → Frame → ViewPlace → Extent → ℕ → CValue → Reading → Planned
 store_extent files c f p e j k v =
-    need (is_view_place files c f p && (is_extent j && is_number v.kind)) fault.Stuck
+    need (is_view_place files c f p && (may_store_at c f p && (is_extent j && is_number v.kind))) fault.Stuck
     (need (is_there c f p) fault.BadField
     (need_some (stored_number v.value) fault.Undefined (λ z.
     (need_strictly c (is_open c f p && may_read c k v) fault.Unlocked
@@ -252,4 +248,4 @@ load_extent files c f x p e j =
     (need_some (number_at (extents_at (extents_of (view_at c f p) e) j)) fault.Undefined (λ z.
     (need_strictly c (is_open c f p && may_write_to c f x) fault.Unlocked
     (need_strictly c (is_held c f p) fault.Unheld
-    (give c f x (value.Number z) (lending (lends_at c f p))))))))
+    (give c f x (value.Number z) (lending (lends_at c f p ++ reads_at c f p))))))))

@@ -1,19 +1,12 @@
-use crate::{Course, Doing, Entered, FaultKind, TypePlace, Value};
+use crate::{Course, Doing, Entered, FaultKind, ItemPlace, Value};
 use api_model::{Allocation, Event, Info, Obj};
 use c_tree::{Numbered, Variable};
 use sqlite_items::Items;
 
-/// Where a function stands: the number of its file, and that of its item in the file.
-#[derive(Clone, Copy, Debug, PartialEq, Eq)]
-pub struct FunctionPlace {
-    pub file: u32,
-    pub item: u32,
-}
-
 /// How a function is entered: with which values of its parameters, with which objects lent to it, and by whom.
 #[derive(Drop)]
 pub struct Entering {
-    pub function: FunctionPlace,
+    pub function: ItemPlace,
     pub values: Items<Value>,
     pub lent: Items<Obj>,
     pub by: Entered,
@@ -27,11 +20,18 @@ pub enum ErrorChange {
     Sets(Obj),
 }
 
+/// A state of the lock that is remembered: the number of the call that asked for it, and whether the lock was held.
+#[derive(Clone, Copy, Debug, PartialEq, Eq)]
+pub struct Remembered {
+    pub number: u64,
+    pub held: bool,
+}
+
 /// What becomes of the states of the lock that are remembered: one more, or the newest less.
 #[derive(Clone, Copy, Debug, PartialEq, Eq)]
 pub enum Remembering {
     Stays,
-    Adds(bool),
+    Adds(Remembered),
     Forgets,
 }
 
@@ -43,7 +43,7 @@ pub enum SpaceChange {
     Field(u32, Numbered, u32, Value),
     Table(u32, Numbered),
     Freed(u32),
-    Made(TypePlace, Allocation),
+    Made(ItemPlace, Allocation),
     Viewed(Info),
 }
 

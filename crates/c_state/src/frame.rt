@@ -1,4 +1,4 @@
-use crate::{Kind, TypePlace, Value};
+use crate::{ItemPlace, Kind, Value};
 use api_model::{Allocation, ApiRow, Op};
 use c_tree::Variable;
 
@@ -16,7 +16,7 @@ pub enum Entered {
     FromC,
     FromOutside,
     ForInitialisation,
-    ForDestruction(u32),
+    ForDestruction,
 }
 
 /// What an operation adds where it is answered by an object that wasn't there: nothing, a view, an instance of a class.
@@ -24,7 +24,7 @@ pub enum Entered {
 pub enum Making {
     Nothing,
     View,
-    Instance(TypePlace, Allocation),
+    Instance(ItemPlace, Allocation),
 }
 
 /// Whether a frame runs, asks the outside, or waits for a function that it called; where the result goes.

@@ -12,10 +12,10 @@ mod value;
 
 pub use api::Api;
 pub use change::{
-    Change, Entering, ErrorChange, FunctionPlace, Initialising, Planned, Remembering, SpaceChange,
+    Change, Entering, ErrorChange, Initialising, Planned, Remembered, Remembering, SpaceChange,
 };
 pub use frame::{Cell, Doing, Entered, Making};
 pub use kind::Kind;
 pub use space::{Course, Instance, Part, Spot};
 pub use step::{FaultKind, Step};
-pub use value::{Buffer, Extents, Memory, Reading, TypePlace, Value, ViewValue};
+pub use value::{Buffer, Extents, ItemPlace, Memory, Reading, Value, ViewValue};

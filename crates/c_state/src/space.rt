@@ -1,4 +1,4 @@
-use crate::{Kind, TypePlace, Value};
+use crate::{ItemPlace, Kind, Value};
 use api_model::Allocation;
 use c_tree::{Numbered, Place};
 use sqlite_items::Items;
@@ -23,7 +23,7 @@ pub struct Part {
 /// stored, and what it holds, the struct of its own class first.
 #[derive(Drop)]
 pub struct Instance {
-    pub class: TypePlace,
+    pub class: ItemPlace,
     pub allocation: Allocation,
     pub alive: bool,
     pub table: Option<Numbered>,

@@ -1,14 +1,13 @@
 use crate::Kind;
 use api_model::{Allocation, Obj};
 use c_token::Bytes;
-use c_tree::Numbered;
 use sqlite_items::Items;
 
-/// A type object: the number of the file that defines it, and its class.
+/// Where an item stands: the number of its file, and its own in the file.
 #[derive(Clone, Copy, Debug, PartialEq, Eq)]
-pub struct TypePlace {
+pub struct ItemPlace {
     pub file: u32,
-    pub class: Numbered,
+    pub item: u32,
 }
 
 /// `mv` of a `cyc_view`: nothing yet, NULL, or an object.
@@ -45,7 +44,7 @@ pub struct ViewValue {
 }
 
 /// What a variable, a field or a place holds, or an operand gives. The arguments of an `__init__` are a tuple, which is no
-/// object of the object space. A state of the lock is how many were remembered before it.
+/// object of the object space. A state of the lock has the number of the call that gave it.
 #[derive(Drop)]
 pub enum Value {
     Unset,
@@ -54,8 +53,8 @@ pub enum Value {
     Number(i128),
     View(ViewValue),
     ThreadState,
-    LockState(u32),
-    TypeObject(TypePlace, Allocation),
+    LockState(u64),
+    TypeObject(ItemPlace, Allocation),
     Arguments(Items<Obj>),
     Tuple(Items<Obj>),
     Text(Bytes),
