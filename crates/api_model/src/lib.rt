@@ -24,3 +24,4 @@ pub use laws::{
 pub use object::{Allocation, Callee, ClassName, FunctionPath, MemberPath, Obj};
 pub use op::{Answer, BinaryOp, Change, Comparison, Make, Op, UnaryOp};
 pub use rows::{ApiRow, Fails, Gives, row};
+pub use views::is_view;

@@ -1,7 +1,7 @@
 use crate::{
     Answer, ApiRow, BinaryOp, Change, ClassName, Entry, Fails, Gives, Info, Make, Obj, Op, answer,
-    answers_are_in_form, entries_need_the_lock, functions_are_distinct, one_object_is_an_equal_one,
-    row, rows_are_clean, rows_need_the_lock,
+    answers_are_in_form, entries_need_the_lock, functions_are_distinct, is_view,
+    one_object_is_an_equal_one, row, rows_are_clean, rows_need_the_lock,
 };
 use c_token::{Bytes, Exception};
 use cy_base::OutOfMemory;
@@ -267,6 +267,24 @@ fn instances_and_views(rt: HostRuntime) -> Result<(), Fail> {
         uneven,
         Shown::Raised(Named::Foreign(0)),
     )?;
+    Ok(())
+}
+
+#[test]
+fn buffers_of_views(rt: HostRuntime) -> Result<(), Fail> {
+    let alloc = rt.alloc();
+    let mut info = Info {
+        letter: None,
+        at_sign: false,
+        item: 1,
+        readonly: true,
+        indirect: false,
+        shape: Items::from_slice(alloc, &[3])?,
+        strides: Items::from_slice(alloc, &[-1])?,
+    };
+    assert!(rt; is_view(&info));
+    info.shape = Items::from_slice(alloc, &[-3])?;
+    assert!(rt; !is_view(&info));
     Ok(())
 }
 

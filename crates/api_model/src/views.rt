@@ -55,8 +55,8 @@ fn is_within(lengths: &[i64], strides: &[i64]) -> bool
     true
 }
 
-// Whether an entry fits that makes a view with this buffer. Of its letter nothing is asked.
-pub(crate) fn is_view(info: &Info) -> bool
+/// Whether an entry fits that makes a view with this buffer. Of its letter nothing is asked.
+pub fn is_view(info: &Info) -> bool
     ensures { result ≡ is_view info.now }
 {
     let lengths = info.shape.as_slice();

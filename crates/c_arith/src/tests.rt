@@ -1,4 +1,6 @@
-use crate::{Computed, Number, compute, convert, invert, number_of, number_type};
+use crate::{
+    Computed, Number, compute, convert, division_goes_towards_zero, invert, number_of, number_type,
+};
 use c_tree::{BinaryOp, CType, Literal};
 use cy_num::{CNum, greatest, least};
 use std::process::Abort;
@@ -253,5 +255,6 @@ fn operands(rt: HostRuntime) -> Result<(), Fail> {
     assert_eq!(rt; number_type(CType::PySsizeT), Some(CNum::I64));
     assert_eq!(rt; number_type(CType::UnsignedShort), Some(CNum::U16));
     assert_eq!(rt; number_type(CType::Object), None);
+    division_goes_towards_zero();
     Ok(())
 }

@@ -21,7 +21,7 @@ use Rattle.c_state.specs.Planned.{need, need_some, need_strictly, nothing, lendi
 use Rattle.c_state.specs.Reads.{lends, takes}
 use Rattle.c_state.specs.Stores.{give, may_store_to, may_write_to}
 use Rattle.c_state.specs.Assignments.{truth}
-use Rattle.c_state.specs.Places.{has_letter}
+use Rattle.element_place.specs.Places.{has_letter}
 use Rattle.c_state.specs.Fields.{object_variable, uses, is_plain}
 
 -- ---- what a memory view tells

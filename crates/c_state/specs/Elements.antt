@@ -32,7 +32,7 @@ use Rattle.c_state.specs.Reads.{lends, may_read, takes}
 use Rattle.c_state.specs.Stores.{give, may_store_to, may_write_to}
 use Rattle.c_state.specs.Fields.{object_variable}
 use Rattle.c_state.specs.Views.{view_in}
-use Rattle.c_state.specs.Places.{is_element}
+use Rattle.element_place.specs.Places.{is_element}
 
 -- an element of a view: the view's number, the byte place from the start of its buffer, and its type
 pub record Element : Type 0 where

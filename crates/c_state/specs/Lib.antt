@@ -15,7 +15,6 @@ pub mod Linked
 pub mod Machine
 pub mod Names
 pub mod Outside
-pub mod Places
 pub mod Planned
 pub mod Reads
 pub mod Returns
