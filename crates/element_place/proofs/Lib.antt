@@ -1,3 +1,3 @@
+pub mod Deciding
 pub mod Indexes
 pub mod Leading
-pub mod Tests

@@ -81,7 +81,7 @@ fn is_near(place: i128) -> bool
     place.unsigned_abs() <= 1_152_921_504_606_846_976
 }
 
-#[tactic(auto, using(crate::proofs::Tests::within))]
+#[tactic(auto, using(crate::proofs::Deciding::within))]
 fn reaches_from_anywhere(lengths: &[i64], strides: &[i64], place: i128) -> bool
     requires { reach lengths.now strides.now ≤ 1152921504606846976 }
     ensures { IsTrue result ↔ Reaches lengths.now strides.now place }

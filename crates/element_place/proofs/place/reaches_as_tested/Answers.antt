@@ -3,7 +3,7 @@ use Rattle.std.proofs.lemmas.Int.{to_z-of_z}
 use Rattle.std.specs.Bool.{one_answer}
 use Rattle.std.specs.Int.{w128}
 use Rattle.element_place.specs.Places.{Reaches, reaches}
-use Rattle.element_place.proofs.Tests.{reaches-Decides}
+use Rattle.element_place.proofs.Deciding.{reaches-Decides}
 use Rattle.element_place.proofs.place.reaches_as_tested.Goals as goal
 
 pub returns : goal.returns
