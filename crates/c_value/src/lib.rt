@@ -1,9 +1,12 @@
 //! Names, types and values of the machine: equality, tests and copies. What takes memory says so.
 #![tactic(auto)]
 
+mod copies;
 mod kinds;
 mod names;
+mod parts;
 
+pub use copies::{copied_bytes, copied_instance, copied_objects, copied_reading, copied_value};
 pub use kinds::{
     are_pointers, converts, has_objects, initial_value, is_number, is_object, is_pointer, is_view,
     kind_of, same_kind, unset_of, zero_of,
@@ -12,3 +15,4 @@ pub use names::{
     same_field, same_fixed, same_function, same_item, same_number, same_place, same_table,
     same_variable,
 };
+pub use parts::{as_memory, extent_at, extents_of, memory_value, with_extent, with_extents};
