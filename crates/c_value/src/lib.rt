@@ -5,6 +5,7 @@ mod copies;
 mod kinds;
 mod names;
 mod parts;
+mod values;
 
 pub use copies::{copied_bytes, copied_instance, copied_objects, copied_reading, copied_value};
 pub use kinds::{
@@ -16,3 +17,7 @@ pub use names::{
     same_variable,
 };
 pub use parts::{as_memory, extent_at, extents_of, memory_value, with_extent, with_extents};
+pub use values::{
+    all_set, converted, fits, is_null, is_set, is_view_set, object_of, objects_in, passed,
+    passed_with, same_pointer, values_of, wrapped,
+};
