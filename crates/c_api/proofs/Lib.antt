@@ -1,1 +1,2 @@
-mod Appended
+pub mod Appended
+pub mod Nested

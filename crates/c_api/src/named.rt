@@ -1,5 +1,6 @@
 //! Which function of the Python/C API a name is.
 ghost use Rattle.std.specs.Prelude.{◌≡◌};
+ghost use Rattle.c_api.specs.Names.{late_names, middle_names};
 ghost use Rattle.c_state.specs.ApiNames.{api_of, function_in, changes, counts_and_lock, exceptions, made_objects, modules_and_types, numbers, protocols, shifts, shifts_in_place, sums, sums_in_place, tests};
 
 use api_model::{BinaryOp, UnaryOp};
@@ -324,43 +325,70 @@ fn tests(name: &[u8]) -> Option<Api>
     None
 }
 
+// The last rows.
+#[tactic(auto, unfolding(crate::specs::Names::late_names), using(crate::proofs::Appended::found))]
+fn late_names(name: &[u8]) -> Option<Api>
+    ensures { result ≡ function_in late_names name.now }
+{
+    let found = numbers(name);
+    if found.is_some() {
+        return found;
+    }
+    let found = exceptions(name);
+    if found.is_some() {
+        return found;
+    }
+    let found = counts_and_lock(name);
+    if found.is_some() {
+        return found;
+    }
+    tests(name)
+}
+
+// The rows behind those of operators.
+#[tactic(auto, unfolding(crate::specs::Names::middle_names), using(crate::proofs::Appended::found))]
+fn middle_names(name: &[u8]) -> Option<Api>
+    ensures { result ≡ function_in middle_names name.now }
+{
+    let found = protocols(name);
+    if found.is_some() {
+        return found;
+    }
+    let found = made_objects(name);
+    if found.is_some() {
+        return found;
+    }
+    let found = modules_and_types(name);
+    if found.is_some() {
+        return found;
+    }
+    let found = changes(name);
+    if found.is_some() {
+        return found;
+    }
+    late_names(name)
+}
+
 /// The function of the Python/C API with this name (Python/C API manual).
-#[tactic(auto, unfolding(c_state::specs::ApiNames::api_of, c_state::specs::ApiNames::all_names), using(crate::proofs::Appended::appended))]
+#[tactic(auto, using(crate::proofs::Nested::table, crate::proofs::Appended::found))]
 pub fn api_named(name: &[u8]) -> Option<Api>
     ensures { result ≡ api_of name.now }
 {
-    if let Some(api) = sums(name) {
-        return Some(api);
+    let found = sums(name);
+    if found.is_some() {
+        return found;
     }
-    if let Some(api) = shifts(name) {
-        return Some(api);
+    let found = shifts(name);
+    if found.is_some() {
+        return found;
     }
-    if let Some(api) = sums_in_place(name) {
-        return Some(api);
+    let found = sums_in_place(name);
+    if found.is_some() {
+        return found;
     }
-    if let Some(api) = shifts_in_place(name) {
-        return Some(api);
+    let found = shifts_in_place(name);
+    if found.is_some() {
+        return found;
     }
-    if let Some(api) = protocols(name) {
-        return Some(api);
-    }
-    if let Some(api) = made_objects(name) {
-        return Some(api);
-    }
-    if let Some(api) = modules_and_types(name) {
-        return Some(api);
-    }
-    if let Some(api) = changes(name) {
-        return Some(api);
-    }
-    if let Some(api) = numbers(name) {
-        return Some(api);
-    }
-    if let Some(api) = exceptions(name) {
-        return Some(api);
-    }
-    if let Some(api) = counts_and_lock(name) {
-        return Some(api);
-    }
-    tests(name)
+    middle_names(name)
 }
