@@ -1,10 +1,11 @@
 -- Worked expressions: what they are, and where they break a rule.
-use Rattle.std.proofs.Common.{◌≡◌, ℕ, false, true, List, [], ◌∷◌, Option, Some, None, refl}
-use Rattle.std.specs.Prelude.{codes}
+use Rattle.std.proofs.Common.{◌≡◌, ◌+◌, ℕ, false, true, List, [], ◌∷◌, Option, Some, None, refl}
+use Rattle.std.specs.Prelude.{codes, map}
 use Rattle.cy_num.specs.declared.types.CNum.TheVariants as number
 use Rattle.cy_tree.specs.declared.expr.Comparison.TheVariants as comparison
 use Rattle.cy_tree.specs.declared.expr.UnaryOp.TheVariants as unary
 use Rattle.cy_tree.specs.declared.set.NameKind.TheVariants as kind
+use Rattle.cy_tree.specs.declared.set.NodeInfo.{NodeInfo}
 use Rattle.cy_tree.specs.declared.ty.Coercion.{Coercion}
 use Rattle.cy_tree.specs.declared.ty.Coercion.TheVariants as coercion
 use Rattle.cy_tree.specs.declared.ty.Ty.{Ty}
@@ -14,11 +15,12 @@ use Rattle.cy_tree.specs.declared.types.Ident.{Ident}
 use Rattle.cy_around.specs.Surroundings.{Surroundings}
 use Rattle.expr_types.specs.declared.said.Arithmetic.TheVariants.{Usual, Divides}
 use Rattle.expr_types.specs.declared.said.Said.TheVariants.{Value, Literal, Function}
+use Rattle.expr_types.specs.Casts.{casting}
 use Rattle.expr_types.specs.Expressions.{leaf}
 use Rattle.expr_types.specs.Joined.{choosing, conditional}
 use Rattle.expr_types.specs.Operators.{comparing, operand, operating, unary_of}
-use Rattle.expr_types.specs.Parts.{PartSaid, attribute, item, one_index, postfix_of}
-use Rattle.expr_types.specs.Said.{Judged, asking, breaks, used}
+use Rattle.expr_types.specs.Parts.{PartSaid, attribute, call, item, one_index, postfix_of}
+use Rattle.expr_types.specs.Said.{Judged, alone, asking, breaks, used}
 
 -- a view has a coercion to itself alone; an object is made of a signed number
 abbrev to_object : Ty → Ty → Option Coercion
@@ -109,3 +111,47 @@ too_many = refl
 -- a `cdef` method that isn't called
 uncalled : (used 0 (leaf 3 (Function (record { «module» = 0; index = 0 }) false))).breaches ≡ breaks 0 18 3 ∷ []
 uncalled = refl
+
+-- `1 if o else u`: the literal's node has the type that it takes
+abbrev types_of : List NodeInfo → List Ty
+types_of infos = map (λ i. i.ty) infos
+
+taken : types_of (conditional around 0 0 (leaf 0 (Literal 1)) (asking around 0 (object 5)) (unsigned 12)).inside ≡ ty.Num number.U32 ∷ ty.Object ∷ ty.Num number.U32 ∷ []
+taken = refl
+
+-- `o and 1`: the constant has type `object`
+constant_taken : types_of (choosing around 0 0 (object 0 ∷ leaf 6 (Literal 1) ∷ [])).inside ≡ ty.Object ∷ ty.Object ∷ []
+constant_taken = refl
+
+-- `v and o and 1`: the truth of a view, and then nothing of the types
+untrue : (choosing around 0 0 (view ∷ object 6 ∷ leaf 12 (Literal 1) ∷ [])).breaches ≡ breaks 0 2 0 ∷ []
+untrue = refl
+
+-- `<A>x`, to no class; nothing more is said of `u(<A>x)` and of `<A><A>x`
+abbrev uncast : ℕ → Judged
+uncast at = casting around 0 at None (object (at + 3))
+
+abbrev call_part : Judged → PartSaid
+call_part j = record { is_call = true; stage = call around 0 1 (used 0 j ∷ []) }
+
+no_cast : (uncast 4).breaches ≡ breaks 0 28 4 ∷ []
+no_cast = refl
+
+no_call : (postfix_of 0 (unsigned 0) (call_part (object 2) ∷ [])).breaches ≡ breaks 0 3 1 ∷ []
+no_call = refl
+
+no_call_of_a_cast : (postfix_of 0 (unsigned 0) (call_part (uncast 2) ∷ [])).breaches ≡ breaks 0 28 2 ∷ []
+no_call_of_a_cast = refl
+
+cast_of_a_cast : (casting around 0 0 None (uncast 3)).breaches ≡ breaks 0 28 3 ∷ []
+cast_of_a_cast = refl
+
+-- `9223372036854775808[o]`, and the literal alone
+large_indexed : (postfix_of 0 (leaf 0 (Literal 9223372036854775808)) (index_part (object 20) ∷ [])).breaches ≡ breaks 0 4 0 ∷ []
+large_indexed = refl
+
+small_indexed : (postfix_of 0 (leaf 0 (Literal 1)) (index_part (object 2) ∷ [])).breaches ≡ breaks 0 3 7 ∷ []
+small_indexed = refl
+
+large_alone : (alone 0 (leaf 0 (Literal 9223372036854775808))).breaches ≡ breaks 0 4 0 ∷ []
+large_alone = refl

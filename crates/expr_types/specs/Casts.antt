@@ -1,5 +1,5 @@
 -- Casts (Cython documentation, "Language Basics", type casting; "Extension Types").
-use Rattle.std.specs.Prelude.{ℕ, Bool, true, false, if◌then◌else◌, List, [], ◌∷◌, Option, Some, None, codes}
+use Rattle.std.specs.Prelude.{ℕ, Bool, true, false, if◌then◌else◌, List, [], ◌∷◌, ◌++◌, Option, Some, None, codes}
 use Rattle.std.specs.Str.{bytes_eq}
 use Rattle.cy_num.specs.declared.types.CNum.TheVariants as number
 use Rattle.cy_tree.specs.declared.set.NameKind.{NameKind}
@@ -13,6 +13,7 @@ use Rattle.cy_tree.specs.declared.types.TypeName.{TypeName}
 use Rattle.cy_tree.specs.declared.types.TypeName.TheVariants as type
 use Rattle.cy_tree.specs.declared.types.TypeNode.{TypeNode}
 use Rattle.cy_around.specs.Surroundings.{Surroundings}
+use Rattle.first_breach.specs.First.{broken_if}
 use Rattle.expr_types.specs.declared.said.Said.TheVariants.{Nothing, Value}
 use Rattle.expr_types.specs.Said.{Judged, alone, breaks, judged_as, meeting, of_pieces, plain}
 
@@ -67,10 +68,15 @@ abbrev pub without_dims : List Dim → Option Ty → Option Ty
 without_dims [] t = t
 without_dims (d ∷ ds) t = None
 
-abbrev pub cast_type : Surroundings → TypeNode → Bool → Option Ty
-cast_type S node is_checked = for_cast is_checked (without_dims node.dims (name_meant S node.name))
+-- and `const` makes it none of these
+abbrev pub without_const : Bool → Option Ty → Option Ty
+without_const constant t = if constant then None else t
 
--- 28: `<T>` with T no number, bint or object, or `<C?>` with C no class, at `<`; else the operand meets the type
+abbrev pub cast_type : Surroundings → TypeNode → Bool → Option Ty
+cast_type S node is_checked = for_cast is_checked (without_const node.constant (without_dims node.dims (name_meant S node.name)))
+
+-- 28: `<T>` with T no number, bint or object, or `<C?>` with C no class, at `<`, of an operand that breaks no rule; else the operand
+-- meets the type
 abbrev pub casting : Surroundings → ℕ → ℕ → Option Ty → Judged → Judged
-casting S file at None u = judged_as (plain at Nothing) (breaks file 28 at ∷ u.breaches) (alone u).nodes
+casting S file at None u = judged_as (plain at Nothing) ((alone file u).breaches ++ broken_if (alone file u).fine (breaks file 28 at)) (alone file u).nodes
 casting S file at (Some t) u = of_pieces at (Value t) (meeting S file t u ∷ [])

@@ -15,7 +15,7 @@ use Rattle.expr_types.specs.Casts.{cast_type, casting}
 use Rattle.expr_types.specs.Operators.{comparing, operand, operating, term_kind, unary_of}
 use Rattle.expr_types.specs.Joined.{choosing, conditional}
 use Rattle.expr_types.specs.Parts.{Indexed, PartSaid, attribute, call, item, named, one_index, postfix_of, slice}
-use Rattle.expr_types.specs.Said.{Judged, Piece, asking, judged_as, meeting, of_pieces, plain, used, all_meeting}
+use Rattle.expr_types.specs.Said.{Judged, Piece, all_meeting, alone, asking, judged_as, meeting, of_pieces, plain, used}
 
 -- an expression, by whether it is a condition: the test of `if`, `while` and of a conditional expression, the operand of `not`, and
 -- the operands of `and` and `or` in a condition
@@ -105,7 +105,7 @@ part_said S file = fold-Part Judging Indexed PartSaid (expr_step S file) (index_
 
 -- ---- an expression in its place in a statement
 
--- whether it is asked for its truth, meets a place of a type, or neither
+-- whether it is asked for its truth, meets a place of a type, is only computed, or is joined with what stands beside it
 abbrev pub as_condition : Surroundings → ℕ → Expr → Piece
 as_condition S file e = condition S file (judged S file e)
 
@@ -114,3 +114,6 @@ as_value S file e = value_of file (judged S file e)
 
 abbrev pub meeting_type : Surroundings → ℕ → Ty → Expr → Piece
 meeting_type S file t e = meeting S file t (as_value S file e)
+
+abbrev pub as_alone : Surroundings → ℕ → Expr → Piece
+as_alone S file e = alone file (as_value S file e)

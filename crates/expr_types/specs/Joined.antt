@@ -13,7 +13,7 @@ use Rattle.first_breach.specs.First.{broken_if}
 use Rattle.expr_types.specs.declared.said.Said.{Said}
 use Rattle.expr_types.specs.declared.said.Said.TheVariants.{Nothing, Value, Literal}
 use Rattle.expr_types.specs.declared.said.Told.{Told}
-use Rattle.expr_types.specs.Said.{Judged, Piece, breaks, fits, if_fine, is_nothing, is_short, judged_as, node_of, plain, too_large, uncoerced}
+use Rattle.expr_types.specs.Said.{Judged, Piece, breaks, fits, if_fine, is_nothing, is_short, judged_as, plain, too_large, type_written, uncoerced, where_fine}
 
 abbrev pub type_or : Option Ty → Said → Option Ty
 type_or other (Value t) = Some t
@@ -95,24 +95,39 @@ tolds us = map (λ u. u.told) us
 abbrev pub all_breaches : List Judged → List Refusal
 all_breaches us = flat_map (λ u. u.breaches) us
 
-abbrev pub all_nodes : List Judged → List NodeInfo
-all_nodes us = flat_map (λ u. node_of u None) us
+-- what is written at each: a literal takes the type, and meets no declared place
+abbrev pub type_taken : Said → Said → Ty
+type_taken (Value t) (Literal n) = t
+type_taken given s = type_written s
+
+abbrev pub taking : Said → Told → NodeInfo
+taking given told = record { name = told.name; ty = type_taken given told.said; how = None; free = false }
+
+abbrev pub node_taking : Said → Judged → List NodeInfo
+node_taking given u = taking given u.told ∷ u.inside
+
+abbrev pub nodes_taking : Said → List Judged → List NodeInfo
+nodes_taking given us = flat_map (node_taking given) us
 
 abbrev pub choosing_said : Surroundings → List Told → Said
 choosing_said S us = if_fine (have_truths S (all_but_last us)) (joined S us)
 
 abbrev pub choosing_broken : Surroundings → ℕ → ℕ → List Told → List Refusal
-choosing_broken S file at us = truths_broken S file (all_but_last us) ++ joined_broken S file at us
+choosing_broken S file at us =
+    truths_broken S file (all_but_last us) ++ where_fine (have_truths S (all_but_last us)) (joined_broken S file at us)
 
 -- `and` and `or` outside a condition
 abbrev pub choosing : Surroundings → ℕ → ℕ → List Judged → Judged
 choosing S file at us =
-    judged_as (plain at (choosing_said S (tolds us))) (all_breaches us ++ choosing_broken S file at (tolds us)) (all_nodes us)
+    judged_as (plain at (choosing_said S (tolds us))) (all_breaches us ++ choosing_broken S file at (tolds us)) (nodes_taking (one_type (tolds us)) us)
 
 -- a conditional expression, whose test is asked for its truth
+abbrev pub arms : Judged → Judged → List Told
+arms value other = value.told ∷ other.told ∷ []
+
 abbrev pub conditional : Surroundings → ℕ → ℕ → Judged → Piece → Judged → Judged
 conditional S file at value test other =
     judged_as
-    (plain at (if_fine test.fine (joined S (value.told ∷ other.told ∷ []))))
-    (value.breaches ++ (test.breaches ++ (other.breaches ++ joined_broken S file at (value.told ∷ other.told ∷ []))))
-    (node_of value None ++ (test.nodes ++ node_of other None))
+    (plain at (if_fine test.fine (joined S (arms value other))))
+    (value.breaches ++ (test.breaches ++ (other.breaches ++ where_fine test.fine (joined_broken S file at (arms value other)))))
+    (node_taking (one_type (arms value other)) value ++ (test.nodes ++ node_taking (one_type (arms value other)) other))

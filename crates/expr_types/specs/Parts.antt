@@ -24,7 +24,7 @@ use Rattle.expr_types.specs.declared.said.Prefix.{Prefix}
 use Rattle.expr_types.specs.declared.said.Said.{Said}
 use Rattle.expr_types.specs.declared.said.Said.TheVariants.{Nothing, Value, Literal, Function, ModuleName, Shape}
 use Rattle.expr_types.specs.declared.said.Told.{Told}
-use Rattle.expr_types.specs.Said.{Judged, Piece, all_alone, all_fine, all_meeting, blank, breaks, broken_in, if_fine, is_nothing, judged_as, meeting, misused, nodes_in, piece, settled, told_as, wanting, written}
+use Rattle.expr_types.specs.Said.{Judged, Piece, all_alone, all_fine, all_meeting, blank, breaks, broken_in, if_fine, is_nothing, is_too_large, judged_as, meeting, misused, nodes_in, piece, settled, told_as, wanting, written}
 
 -- ---- what is known of a name
 
@@ -75,10 +75,16 @@ attribute_of S name (ModuleName m) = exported S (S.exported m name)
 attribute_of S name (Function id true) = Value ty.Object
 attribute_of S name _ = Nothing
 
+-- what is broken by what stands before a part, whatever the part is; 4: a literal above 9223372036854775807, which is a C number there
+abbrev pub prefix_broken : ℕ → ℕ → Said → List Refusal
+prefix_broken file at (Literal n) = broken_if (is_too_large n) (breaks file 4 at)
+prefix_broken file at s = misused file at s
+
 -- 3: one of something else, at the NAME; 22: one of a view that isn't `shape`, at the first byte
 -- what stands before the dot may itself be misused
 abbrev pub attribute_broken : Surroundings → ℕ → ℕ → ℕ → Ident → Said → List Refusal
 attribute_broken S file whole at i Nothing = []
+attribute_broken S file whole at i (Literal n) = if is_too_large n then breaks file 4 at ∷ [] else breaks file 3 i.at ∷ []
 attribute_broken S file whole at i (Function id is_object) = misused file at (Function id is_object)
 attribute_broken S file whole at i (Shape v) = misused file at (Shape v)
 attribute_broken S file whole at i (Value (ty.View v)) = broken_if (is_nothing (shape_of v i.text)) (breaks file 22 whole)
@@ -101,6 +107,20 @@ PartStage = Said → ℕ → ℕ → Stage
 abbrev pub attribute : Surroundings → ℕ → Ident → PartStage
 attribute S file i before at whole = stage (attribute_of S i.text before) (attribute_broken S file whole at i before) (blank ∷ [])
 
+-- ---- calls and indexes, by what is inside them
+
+-- what it is where no rule is broken inside
+abbrev pub right : Said → List Piece → Stage
+right said ps = stage (if_fine (all_fine ps) said) (broken_in ps) (blank ∷ nodes_in ps)
+
+-- a rule that it breaks, which is said where none is broken inside
+abbrev pub wrong : Refusal → List Piece → Stage
+wrong breach ps = stage Nothing (broken_in ps ++ broken_if (all_fine ps) breach) (blank ∷ nodes_in ps)
+
+-- what stands before it is nothing already, or breaks a rule
+abbrev pub stopped : ℕ → ℕ → Said → List Piece → Stage
+stopped file at s ps = stage Nothing (prefix_broken file at s ++ broken_in ps) (blank ∷ nodes_in ps)
+
 -- ---- calls
 
 -- each argument meets its parameter
@@ -108,36 +128,37 @@ abbrev pub each_meeting : Surroundings → ℕ → List Ty → List Judged → L
 each_meeting S file (t ∷ ts) (u ∷ us) = meeting S file t u ∷ each_meeting S file ts us
 each_meeting S file _ _ = []
 
-abbrev pub call_stage : Said → List Refusal → List Piece → Stage
-call_stage said breaches ps = stage (if_fine (all_fine ps) said) (breaches ++ broken_in ps) (blank ∷ nodes_in ps)
-
 -- 5: a C call with a wrong number of arguments, at the first byte of the call
 abbrev pub c_call : Surroundings → ℕ → ℕ → Signature → List Judged → Stage
 c_call S file whole s us =
     if nat_eq (length us) (length s.params)
-    then call_stage (Value s.result) [] (each_meeting S file s.params us)
-    else call_stage Nothing (breaks file 5 whole ∷ []) (all_alone us)
+    then right (Value s.result) (each_meeting S file s.params us)
+    else wrong (breaks file 5 whole) (all_alone file us)
 
 -- the arguments of an object's call are objects
 abbrev pub object_call : Surroundings → ℕ → List Judged → Stage
-object_call S file us = call_stage (Value ty.Object) [] (all_meeting S file ty.Object us)
-
-abbrev pub no_call : List Refusal → List Judged → Stage
-no_call breaches us = call_stage Nothing breaches (all_alone us)
+object_call S file us = right (Value ty.Object) (all_meeting S file ty.Object us)
 
 abbrev pub function_call : Surroundings → ℕ → ℕ → Option Callable → List Judged → Stage
 function_call S file whole (Some c) us = c_call S file whole c.signature us
 function_call S file whole None us = object_call S file us
+
+abbrev pub stopped_call : ℕ → ℕ → Said → List Judged → Stage
+stopped_call file at s us = stopped file at s (all_alone file us)
+
+abbrev pub wrong_call : ℕ → ℕ → List Judged → Stage
+wrong_call file place us = wrong (breaks file 3 place) (all_alone file us)
 
 -- a call is made of an object operand, a C function or a method; 3: of something else, at the `(`
 abbrev pub call : Surroundings → ℕ → ℕ → List Judged → PartStage
 call S file place us (Function id is_object) at whole = function_call S file whole (S.function id) us
 call S file place us (Value ty.Object) at whole = object_call S file us
 call S file place us (Value (ty.Class c)) at whole = object_call S file us
-call S file place us Nothing at whole = no_call [] us
-call S file place us (ModuleName m) at whole = no_call (misused file at (ModuleName m)) us
-call S file place us (Shape v) at whole = no_call (misused file at (Shape v)) us
-call S file place us s at whole = no_call (breaks file 3 place ∷ []) us
+call S file place us Nothing at whole = stopped_call file at Nothing us
+call S file place us (ModuleName m) at whole = stopped_call file at (ModuleName m) us
+call S file place us (Shape v) at whole = stopped_call file at (Shape v) us
+call S file place us (Literal n) at whole = if is_too_large n then stopped_call file at (Literal n) us else wrong_call file place us
+call S file place us s at whole = wrong_call file place us
 
 -- ---- indexes
 
@@ -185,9 +206,6 @@ abbrev pub element_or_view : ViewTy → ℕ → Ty
 element_or_view v n =
     if nat_eq n 0 then ty.Num v.elem else ty.View (record { elem = v.elem; dims = n; constant = v.constant; contiguous = false })
 
-abbrev pub index_stage : Said → List Refusal → List Piece → Stage
-index_stage said breaches ps = stage (if_fine (all_fine ps) said) (broken_in ps ++ breaches) (blank ∷ nodes_in ps)
-
 abbrev pub wanted_index : Option Ty
 wanted_index = Some (ty.Num number.I64)
 
@@ -195,15 +213,15 @@ wanted_index = Some (ty.Num number.I64)
 abbrev pub view_index : ℕ → ℕ → ViewTy → List Indexed → Stage
 view_index file place v is =
     if nat_eq (length is) v.dims
-    then index_stage (Value (element_or_view v (slices is))) [] (index_pieces wanted_index wanted_index is)
-    else index_stage Nothing (breaks file 20 place ∷ []) (index_pieces wanted_index wanted_index is)
+    then right (Value (element_or_view v (slices is))) (index_pieces wanted_index wanted_index is)
+    else wrong (breaks file 20 place) (index_pieces wanted_index wanted_index is)
 
 -- 3: a slice of an object, at the `[`
 abbrev pub object_index : ℕ → ℕ → List Indexed → Stage
 object_index file place is =
     if nat_eq (slices is) 0
-    then index_stage (Value ty.Object) [] (index_pieces (Some ty.Object) None is)
-    else index_stage Nothing (breaks file 3 place ∷ []) (index_pieces (Some ty.Object) None is)
+    then right (Value ty.Object) (index_pieces (Some ty.Object) None is)
+    else wrong (breaks file 3 place) (index_pieces (Some ty.Object) None is)
 
 abbrev pub is_below : ViewTy → Option ℕ → Bool
 is_below v None = false
@@ -213,15 +231,18 @@ abbrev pub is_dimension : ViewTy → List Indexed → Bool
 is_dimension v (i ∷ []) = is_below v i.literal
 is_dimension v is = false
 
--- 22: `shape[k]` with anything but one literal below the dimensions
+-- 22: `shape[k]` with anything but one literal below the dimensions, at its first byte
 abbrev pub shape_index : ℕ → ℕ → ViewTy → List Indexed → Stage
-shape_index file at v is =
+shape_index file whole v is =
     if is_dimension v is
-    then index_stage (Value (ty.Num number.I64)) [] (index_pieces None None is)
-    else index_stage Nothing (breaks file 22 at ∷ []) (index_pieces None None is)
+    then right (Value (ty.Num number.I64)) (index_pieces None None is)
+    else wrong (breaks file 22 whole) (index_pieces None None is)
 
-abbrev pub no_index : List Refusal → List Indexed → Stage
-no_index breaches is = index_stage Nothing breaches (index_pieces None None is)
+abbrev pub stopped_index : ℕ → ℕ → Said → List Indexed → Stage
+stopped_index file at s is = stopped file at s (index_pieces None None is)
+
+abbrev pub wrong_index : ℕ → ℕ → List Indexed → Stage
+wrong_index file place is = wrong (breaks file 3 place) (index_pieces None None is)
 
 -- an index is taken of a view, of a view's `shape` or of an object operand; 3: of something else, at the `[`
 abbrev pub item : ℕ → ℕ → List Indexed → PartStage
@@ -229,11 +250,12 @@ item file place is (Value (ty.View v)) at whole = view_index file place v is
 item file place is (Value ty.Object) at whole = object_index file place is
 item file place is (Value (ty.Class c)) at whole = object_index file place is
 item file place is (Function id true) at whole = object_index file place is
-item file place is (Shape v) at whole = shape_index file at v is
-item file place is Nothing at whole = no_index [] is
-item file place is (Function id false) at whole = no_index (misused file at (Function id false)) is
-item file place is (ModuleName m) at whole = no_index (misused file at (ModuleName m)) is
-item file place is s at whole = no_index (breaks file 3 place ∷ []) is
+item file place is (Shape v) at whole = shape_index file whole v is
+item file place is Nothing at whole = stopped_index file at Nothing is
+item file place is (Function id false) at whole = stopped_index file at (Function id false) is
+item file place is (ModuleName m) at whole = stopped_index file at (ModuleName m) is
+item file place is (Literal n) at whole = if is_too_large n then stopped_index file at (Literal n) is else wrong_index file place is
+item file place is s at whole = wrong_index file place is
 
 -- ---- parts in a row
 

@@ -86,7 +86,7 @@ uncoerced S file at t (Literal n) = broken_if (is_lacking (S.coercion (ty.Num (l
 uncoerced S file at t (Value from) = broken_if (is_lacking (S.coercion from t)) (breaks file 2 at)
 uncoerced S file at t _ = []
 
--- 4: a literal above 9223372036854775807 that isn't wanted as an object
+-- 4: a literal above 9223372036854775807 that meets a type other than `object`
 abbrev pub too_large : ℕ → ℕ → Ty → Said → List Refusal
 too_large file at ty.Object (Literal n) = []
 too_large file at t (Literal n) = broken_if (is_too_large n) (breaks file 4 at)
@@ -173,21 +173,32 @@ asking S file u =
     (u.breaches ++ (uncoerced S file u.told.at ty.Bint u.told.said ++ too_large file u.told.at ty.Bint u.told.said))
     (node_of u None)
 
--- nothing is wanted of it
-abbrev pub alone : Judged → Piece
-alone u = piece (not (is_nothing u.told.said)) u.breaches (node_of u None)
+-- nothing is wanted of it, so a literal is a C number; 4: one above 9223372036854775807
+abbrev pub large_alone : ℕ → ℕ → Said → List Refusal
+large_alone file at (Literal n) = broken_if (is_too_large n) (breaks file 4 at)
+large_alone file at s = []
+
+abbrev pub is_sound : Said → Bool
+is_sound (Literal n) = not (is_too_large n)
+is_sound s = not (is_nothing s)
+
+abbrev pub alone : ℕ → Judged → Piece
+alone file u = piece (is_sound u.told.said) (u.breaches ++ large_alone file u.told.at u.told.said) (node_of u None)
 
 abbrev pub all_meeting : Surroundings → ℕ → Ty → List Judged → List Piece
 all_meeting S file t us = map (meeting S file t) us
 
-abbrev pub all_alone : List Judged → List Piece
-all_alone us = map alone us
+abbrev pub all_alone : ℕ → List Judged → List Piece
+all_alone file us = map (alone file) us
 
 abbrev pub wanting : Surroundings → ℕ → Option Ty → Judged → Piece
-wanting S file None u = alone u
+wanting S file None u = alone file u
 wanting S file (Some t) u = meeting S file t u
 
--- the breaches in an expression silence what contains it
+-- where a rule is broken in a part of it, the whole is nothing, and nothing is said of the whole
+abbrev pub where_fine : Bool → List Refusal → List Refusal
+where_fine fine breaches = if fine then breaches else []
+
 abbrev pub if_fine : Bool → Said → Said
 if_fine fine said = if fine then said else Nothing
 

@@ -1,6 +1,6 @@
 //! The types of casts.
 ghost use Rattle.std.specs.Prelude.{◌≡◌, false, true, Some};
-ghost use Rattle.expr_types.specs.Casts.{cast_type, class_meant, class_through, for_cast, name_meant, without_dims, words_meant};
+ghost use Rattle.expr_types.specs.Casts.{cast_type, class_meant, class_through, for_cast, name_meant, without_const, without_dims, words_meant};
 
 use cy_around::Around;
 use cy_num::CNum;
@@ -113,10 +113,16 @@ fn without_dims(dims: &[Dim], kind: Option<Ty>) -> Option<Ty>
     }
 }
 
+fn without_const(constant: bool, kind: Option<Ty>) -> Option<Ty>
+    ensures { result ≡ without_const constant kind }
+{
+    if constant { None } else { kind }
+}
+
 /// The type of a cast, where a cast may have it.
 pub(crate) fn cast_type<A: Around>(around: &A, node: &TypeNode, is_checked: bool) -> Option<Ty>
     ensures { result ≡ cast_type (A.surroundings around.now) node.now is_checked }
 {
     let kind = without_dims(node.dims.as_slice(), name_meant(around, &node.name));
-    for_cast(is_checked, kind)
+    for_cast(is_checked, without_const(node.constant, kind))
 }

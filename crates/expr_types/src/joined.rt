@@ -3,16 +3,18 @@ ghost use Rattle.std.specs.Prelude.{◌≡◌, ◌++◌, OnOk, if◌then◌else�
 ghost use Rattle.std.specs.List.{flat_map, list_all, list_any};
 ghost use Rattle.cy_tree.specs.Bases.{class_eq};
 ghost use Rattle.cy_tree.specs.Coercions.{number_eq, type_eq, view_eq};
-ghost use Rattle.expr_types.specs.Joined.{all_but_last, any_nothing, choosing_broken, choosing_said, first_type, has_truth, has_type, have_truths, if_literals_fit, is_long_literal, joined, joined_broken, literal_broken, literal_fits, literals_broken, one_of, one_type, truth_broken, truths_broken, two_types, type_or};
+ghost use Rattle.expr_types.specs.Said.{where_fine};
+ghost use Rattle.expr_types.specs.Joined.{all_but_last, any_nothing, choosing_broken, choosing_said, first_type, has_truth, has_type, have_truths, if_literals_fit, is_long_literal, joined, joined_broken, literal_broken, literal_fits, literals_broken, one_of, one_type, taking, truth_broken, truths_broken, two_types, type_or, type_taken};
 
 use crate::place::{
     Noted, breaks, fits, if_fine, is_nothing, is_short, note_if, note_too_large, note_uncoerced,
+    type_written,
 };
 use crate::said::{Said, Told};
 use cy_around::Around;
 use cy_base::{FileId, Refusal};
 use cy_num::CNum;
-use cy_tree::{ClassId, Ty, ViewTy};
+use cy_tree::{ClassId, NodeInfo, Ty, ViewTy};
 
 fn same_number(a: CNum, b: CNum) -> bool
     ensures { result ≡ number_eq a b }
@@ -119,7 +121,8 @@ fn any_nothing(tolds: &[Told]) -> bool
     tolds.iter().any(|told| is_nothing(told.said))
 }
 
-fn one_type(tolds: &[Told]) -> Said
+/// The one type of values, where literals take that of the others.
+pub(crate) fn one_type(tolds: &[Told]) -> Said
     ensures { result ≡ one_type tolds.now }
 {
     if any_nothing(tolds) {
@@ -220,8 +223,8 @@ pub(crate) fn joined<A: Around>(around: &A, tolds: &[Told]) -> Said
     if_literals_fit(around, one_type(tolds), tolds)
 }
 
-/// Notes values of two types, and literals that don't take the type.
-pub(crate) fn note_joined<A: Around>(
+// Notes values of two types, and literals that don't take the type.
+fn note_joined<A: Around>(
     around: &A,
     file: FileId,
     at: u32,
@@ -232,6 +235,44 @@ pub(crate) fn note_joined<A: Around>(
 {
     note_two_types(file, at, tolds, broken)?;
     note_literals(around, file, one_type(tolds), tolds, broken)
+}
+
+/// The same where no rule is broken already.
+pub(crate) fn note_joined_where<A: Around>(
+    around: &A,
+    file: FileId,
+    at: u32,
+    is_fine: bool,
+    tolds: &[Told],
+    broken: &mut Vec<Refusal>,
+) -> Noted
+    ensures { OnOk result (broken.new.items ≡ broken.old.items ++ where_fine is_fine (joined_broken (A.surroundings around.now) file at tolds.now)) }
+{
+    if is_fine {
+        return note_joined(around, file, at, tolds, broken);
+    }
+    Ok(())
+}
+
+fn type_taken(given: Said, said: Said) -> Ty
+    ensures { result ≡ type_taken given said }
+{
+    match (given, said) {
+        (Said::Value(kind), Said::Literal(_)) => kind,
+        _ => type_written(said),
+    }
+}
+
+/// What is written at one of several values, by what they are together.
+pub(crate) fn taking(given: Said, told: Told) -> NodeInfo
+    ensures { result ≡ taking given told }
+{
+    NodeInfo {
+        name: told.name,
+        ty: type_taken(given, told.said),
+        how: None,
+        free: false,
+    }
 }
 
 fn note_truth<A: Around>(
@@ -304,6 +345,7 @@ pub(crate) fn note_choosing<A: Around>(
 ) -> Noted
     ensures { OnOk result (broken.new.items ≡ broken.old.items ++ choosing_broken (A.surroundings around.now) file at tolds.now) }
 {
-    note_truths(around, file, all_but_last(tolds), broken)?;
-    note_joined(around, file, at, tolds, broken)
+    let asked = all_but_last(tolds);
+    note_truths(around, file, asked, broken)?;
+    note_joined_where(around, file, at, have_truths(around, asked), tolds, broken)
 }

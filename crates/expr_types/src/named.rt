@@ -3,7 +3,7 @@ ghost use Rattle.std.specs.Prelude.{◌≡◌, ◌++◌, OnOk};
 ghost use Rattle.std.specs.Option.{option_copied};
 ghost use Rattle.expr_types.specs.Parts.{attribute_broken, attribute_of, exported, function_exported, function_named, is_cpdef, member_said, named, shape_of};
 
-use crate::place::{Noted, breaks, is_nothing, note_if, note_misused};
+use crate::place::{Noted, breaks, is_nothing, is_too_large, note_if, note_misused};
 use crate::said::Said;
 use cy_around::{Around, Callable, MemberSaid};
 use cy_base::{FileId, Refusal};
@@ -110,6 +110,7 @@ pub(crate) fn note_attribute<A: Around>(
     let lacks = is_nothing(attribute_of(around, text, before));
     match before {
         Said::Nothing => Ok(()),
+        Said::Literal(n) if is_too_large(n) => note_if(true, breaks(file, 4, at), broken),
         Said::Function(_, _) => note_misused(file, at, before, broken),
         Said::Shape(_) => note_misused(file, at, before, broken),
         Said::Value(Ty::View(view)) => {

@@ -1,12 +1,13 @@
 //! What stands behind an atom, without what is inside it.
-ghost use Rattle.std.specs.Prelude.{◌≡◌, ◌≤◌, ℕ};
+ghost use Rattle.std.specs.Prelude.{◌≡◌, ◌≤◌, ◌++◌, ℕ, OnOk};
 ghost use Rattle.cy_around.specs.Surroundings.{Surroundings};
 ghost use Rattle.expr_types.specs.Expressions.{part_said};
-ghost use Rattle.expr_types.specs.Parts.{atom_said, element_or_view, first_is_call, is_below, literal_of, prefix_of, prefix_told};
+ghost use Rattle.expr_types.specs.Parts.{atom_said, element_or_view, first_is_call, is_below, literal_of, prefix_broken, prefix_of, prefix_told};
 ghost use Rattle.expr_types.specs.Walk.{all_parts};
 
-use crate::place::settled;
+use crate::place::{Noted, breaks, is_too_large, note_if, note_misused, settled};
 use crate::said::{Prefix, Said, Told};
+use cy_base::{FileId, Refusal};
 use cy_tree::{Part, Ty, ViewTy};
 
 pub(crate) fn literal_of(said: Said) -> Option<u128>
@@ -40,6 +41,16 @@ pub(crate) fn element_or_view(view: ViewTy, sliced: usize) -> Ty
         contiguous: false,
         ..view
     })
+}
+
+/// Notes what is broken by what stands before a call or an index.
+pub(crate) fn note_prefix(file: FileId, at: u32, said: Said, broken: &mut Vec<Refusal>) -> Noted
+    ensures { OnOk result (broken.new.items ≡ broken.old.items ++ prefix_broken file at said) }
+{
+    match said {
+        Said::Literal(n) => note_if(is_too_large(n), breaks(file, 4, at), broken),
+        _ => note_misused(file, at, said, broken),
+    }
 }
 
 fn is_call(part: &Part) -> bool

@@ -2,7 +2,7 @@
 ghost use Rattle.std.specs.Prelude.{◌≡◌, ◌++◌, ℕ, OnOk};
 ghost use Rattle.expr_types.specs.declared.said.Said.TheVariants.{Literal};
 ghost use Rattle.first_breach.specs.First.{broken_if};
-ghost use Rattle.expr_types.specs.Said.{breaks, fits, how_met, if_fine, is_lacking, is_nothing, is_object, is_short, is_too_large, literal_type, misused, number_of, plain, settled, told_as, too_large, type_written, uncoerced, written};
+ghost use Rattle.expr_types.specs.Said.{breaks, fits, how_met, if_fine, is_lacking, is_nothing, is_object, is_short, is_sound, is_too_large, large_alone, literal_type, misused, number_of, plain, settled, told_as, too_large, type_written, uncoerced, written};
 
 use crate::said::{Said, Told};
 use cy_around::Around;
@@ -179,6 +179,31 @@ pub(crate) fn note_too_large(
         (Ty::Object, Said::Literal(_)) => Ok(()),
         (_, Said::Literal(n)) => note_if(is_too_large(n), breaks(file, 4, at), broken),
         _ => Ok(()),
+    }
+}
+
+/// Notes a literal that is too large, where nothing is wanted of it.
+pub(crate) fn note_large_alone(
+    file: FileId,
+    at: u32,
+    said: Said,
+    broken: &mut Vec<Refusal>,
+) -> Noted
+    ensures { OnOk result (broken.new.items ≡ broken.old.items ++ large_alone file at said) }
+{
+    match said {
+        Said::Literal(n) => note_if(is_too_large(n), breaks(file, 4, at), broken),
+        _ => Ok(()),
+    }
+}
+
+/// Whether an expression of which nothing is wanted breaks no rule.
+pub(crate) fn is_sound(said: Said) -> bool
+    ensures { result ≡ is_sound said }
+{
+    match said {
+        Said::Literal(n) => !is_too_large(n),
+        _ => !is_nothing(said),
     }
 }
 

@@ -27,6 +27,13 @@ pub struct Told {
     pub owner_at: u32,
 }
 
+/// What is told of an expression, and the place of its node.
+#[derive(Clone, Copy)]
+pub(crate) struct Seen {
+    pub told: Told,
+    pub place: usize,
+}
+
 /// The types that operators have for two numbers. The project's own.
 #[derive(Clone, Copy)]
 pub enum Arithmetic {
