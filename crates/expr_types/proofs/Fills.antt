@@ -43,8 +43,8 @@ pub filled-around : {A : Type 0} {old new : List A} {a b x' y' : A} {p q : ℕ} 
 filled-around {A} {old} {new} {a} {b} {x'} {y'} {p} {q} before xs mid ys x y is was p-is q-is a-is b-is =
     filled ((before ++ x' ∷ xs) ++ mid) ys y is
     (filled before (xs ++ (mid ++ y ∷ ys)) x refl
-        (was ∙ append_assoc (before ++ x ∷ xs) mid (y ∷ ys) ∙ append_assoc before (x ∷ xs) (mid ++ y ∷ ys))
-        p-is a-is
+    (was ∙ append_assoc (before ++ x ∷ xs) mid (y ∷ ys) ∙ append_assoc before (x ∷ xs) (mid ++ y ∷ ys))
+    p-is a-is
     ∙ sym (append_assoc before (x' ∷ xs) (mid ++ y ∷ ys))
     ∙ sym (append_assoc (before ++ x' ∷ xs) mid (y ∷ ys)))
     (q-is ∙ same-length before xs mid x x')

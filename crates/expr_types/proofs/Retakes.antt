@@ -17,9 +17,9 @@ retaken_behind given infos old (u ∷ us) same =
     ∙ set-append_seam infos (written u.told None) (u.inside ++ unfilled us) (taking given u.told)
     ∙ sym (append_assoc infos (node_taking given u) (unfilled us)))
     ∙ retaken_behind given (infos ++ node_taking given u) (old ++ node_of u None) us
-        (length-append infos (node_taking given u)
-        ∙ ap (λ (n : ℕ). n + suc (length u.inside)) same
-        ∙ sym (length-append old (node_of u None)))
+    (length-append infos (node_taking given u)
+    ∙ ap (λ (n : ℕ). n + suc (length u.inside)) same
+    ∙ sym (length-append old (node_of u None)))
     ∙ append_assoc infos (node_taking given u) (nodes_taking given us)
 
 pub retaken-all : {old mid new : List NodeInfo} (given : Said) (us : List Judged) → mid ≡ old ++ unfilled us → new ≡ retaken given mid (seens_from old us) → new ≡ old ++ nodes_taking given us

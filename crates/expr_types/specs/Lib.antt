@@ -1,6 +1,7 @@
 pub mod Casts
 pub mod Expressions
 pub mod Joined
+pub mod Judges
 pub mod Operators
 pub mod Parts
 pub mod Said

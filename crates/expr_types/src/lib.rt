@@ -4,14 +4,11 @@
 mod cast;
 mod joined;
 mod named;
+mod nest;
 mod operators;
 mod parts;
 mod place;
 mod said;
-#[cfg(test)]
-mod tests;
 mod walk;
-mod whole;
 
 pub use said::{Arithmetic, Prefix, Said, Told};
-pub use whole::{Judgement, condition, meeting, target, value};

@@ -53,6 +53,7 @@ pub(crate) fn note_prefix(file: FileId, at: u32, said: Said, broken: &mut Vec<Re
     }
 }
 
+#[tactic(auto, unfolding(crate::specs::Expressions::part_said))]
 fn is_call(part: &Part) -> bool
     ensures { (S : Surroundings) (file : ℕ) → (part_said S file part.now).is_call ≡ result }
 {
