@@ -4,6 +4,7 @@ use Rattle.std.proofs.Math.Seq.{set-append_seam}
 use Rattle.std.proofs.lemmas.List.{length-append}
 use Rattle.cy_tree.specs.declared.set.NodeInfo.{NodeInfo}
 use Rattle.expr_types.specs.declared.said.Said.{Said}
+use Rattle.expr_types.specs.declared.said.Seen.{Seen}
 use Rattle.expr_types.specs.Joined.{node_taking, nodes_taking, taking}
 use Rattle.expr_types.specs.Said.{Judged, node_of, written}
 use Rattle.expr_types.specs.Walk.{retaken, seens_from, unfilled}
@@ -22,6 +23,10 @@ retaken_behind given infos old (u ∷ us) same =
     ∙ sym (length-append old (node_of u None)))
     ∙ append_assoc infos (node_taking given u) (nodes_taking given us)
 
-pub retaken-all : {old mid new : List NodeInfo} (given : Said) (us : List Judged) → mid ≡ old ++ unfilled us → new ≡ retaken given mid (seens_from old us) → new ≡ old ++ nodes_taking given us
-retaken-all {old} given us was is =
-    is ∙ ap (λ (xs : List NodeInfo). retaken given xs (seens_from old us)) was ∙ retaken_behind given old old us refl
+pub retaken-all : {old mid new : List NodeInfo} {taken : Said} {seens : List Seen} (given : Said) (us : List Judged) → new ≡ retaken taken mid seens → mid ≡ old ++ unfilled us → taken ≡ given → seens ≡ seens_from old us → new ≡ old ++ nodes_taking given us
+retaken-all {old} {mid} {new} {taken} {seens} given us is was same those =
+    is
+    ∙ ap (λ (xs : List NodeInfo). retaken taken xs seens) was
+    ∙ ap (λ (s : Said). retaken s (old ++ unfilled us) seens) same
+    ∙ ap (λ (ss : List Seen). retaken given (old ++ unfilled us) ss) those
+    ∙ retaken_behind given old old us refl

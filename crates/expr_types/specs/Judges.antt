@@ -13,16 +13,16 @@ use Rattle.expr_types.specs.Expressions.{judged}
 
 -- it may be called, and gives and appends what the definitions say
 pub record Judges {A : Type 0} (surroundings : A → Surroundings) (room : ℕ)
-    (pre : Bor A → ℕ → Global → Bor Expr → Bool → MutBor (Vec NodeInfo) → MutBor (Vec Refusal) → ℕ → Type 0)
-    (post : Bor A → ℕ → Global → Bor Expr → Bool → MutBor (Vec NodeInfo) → MutBor (Vec Refusal) → ℕ → Result Told OutOfMemory → MutBor (Vec NodeInfo) → MutBor (Vec Refusal) → Type 0) : Type 0 where
-  pub callable : (around : Bor A) (file : ℕ) (alloc : Global) (e : Bor Expr) (is_condition : Bool) (infos : MutBor (Vec NodeInfo)) (broken : MutBor (Vec Refusal))
+    (pre : Bor A → ℕ → Global → Bor Expr → Bool → MutBor (Vec NodeInfo Global) → MutBor (Vec Refusal Global) → ℕ → Type 0)
+    (post : Bor A → ℕ → Global → Bor Expr → Bool → MutBor (Vec NodeInfo Global) → MutBor (Vec Refusal Global) → ℕ → Result Told OutOfMemory → MutBor (Vec NodeInfo Global) → MutBor (Vec Refusal Global) → Type 0) : Type 0 where
+  pub callable : (around : Bor A) (file : ℕ) (alloc : Global) (e : Bor Expr) (is_condition : Bool) (infos : MutBor (Vec NodeInfo Global)) (broken : MutBor (Vec Refusal Global))
       → pre around file alloc e is_condition infos broken room
-  pub told : (around : Bor A) (file : ℕ) (alloc : Global) (e : Bor Expr) (is_condition : Bool) (infos infos' : MutBor (Vec NodeInfo)) (broken broken' : MutBor (Vec Refusal)) (result : Result Told OutOfMemory)
+  pub told : (around : Bor A) (file : ℕ) (alloc : Global) (e : Bor Expr) (is_condition : Bool) (infos infos' : MutBor (Vec NodeInfo Global)) (broken broken' : MutBor (Vec Refusal Global)) (result : Result Told OutOfMemory)
       → post around file alloc e is_condition infos broken room result infos' broken'
       → IfOk result (λ told. told ≡ (judged (surroundings around.now) file e.now is_condition).told)
-  pub nodes : (around : Bor A) (file : ℕ) (alloc : Global) (e : Bor Expr) (is_condition : Bool) (infos infos' : MutBor (Vec NodeInfo)) (broken broken' : MutBor (Vec Refusal)) (result : Result Told OutOfMemory)
+  pub nodes : (around : Bor A) (file : ℕ) (alloc : Global) (e : Bor Expr) (is_condition : Bool) (infos infos' : MutBor (Vec NodeInfo Global)) (broken broken' : MutBor (Vec Refusal Global)) (result : Result Told OutOfMemory)
       → post around file alloc e is_condition infos broken room result infos' broken'
       → OnOk result (infos'.now.items ≡ infos.now.items ++ (judged (surroundings around.now) file e.now is_condition).inside)
-  pub breaches : (around : Bor A) (file : ℕ) (alloc : Global) (e : Bor Expr) (is_condition : Bool) (infos infos' : MutBor (Vec NodeInfo)) (broken broken' : MutBor (Vec Refusal)) (result : Result Told OutOfMemory)
+  pub breaches : (around : Bor A) (file : ℕ) (alloc : Global) (e : Bor Expr) (is_condition : Bool) (infos infos' : MutBor (Vec NodeInfo Global)) (broken broken' : MutBor (Vec Refusal Global)) (result : Result Told OutOfMemory)
       → post around file alloc e is_condition infos broken room result infos' broken'
       → OnOk result (broken'.now.items ≡ broken.now.items ++ (judged (surroundings around.now) file e.now is_condition).breaches)

@@ -10,5 +10,7 @@ mod parts;
 mod place;
 mod said;
 mod walk;
+mod whole;
 
 pub use said::{Arithmetic, Prefix, Said, Told};
+pub use whole::{Judgement, alone, condition, meeting, target, value};
