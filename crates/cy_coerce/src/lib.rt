@@ -11,7 +11,7 @@ ghost use Rattle.cy_tree.specs.declared.set.NamedSet.{NamedSet};
 ghost use Rattle.cy_tree.specs.Bases.{class_eq, is_base};
 ghost use Rattle.cy_tree.specs.Coercions.{coercion_of, is_wider, view_eq};
 
-pub use base::{base_named, base_of, class_declared};
+pub use base::{as_class_id, base_of, class_declared, kind_of};
 pub use same::same_type;
 
 use crate::base::is_base;

@@ -68,8 +68,8 @@ abbrev pub as_place : Option Ty → Option Ty
 as_place (Some ty.Void) = None
 as_place t = t
 
--- The type of a result, and that of a parameter, a field or a variable. A type that isn't written is `object`, and so is one in which a
--- rule on types is broken, of which nothing more is to be said.
+-- The type of a result, and that of a parameter, a field or a variable. A type that isn't written is `object`, and one in which a rule on
+-- types is broken is read as `object`.
 abbrev pub result_type : Known → NamedSet → ℕ → Option TypeNode → Ty
 result_type known set scope t = or_object (maybe_meant known set scope t)
 

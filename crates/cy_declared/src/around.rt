@@ -37,7 +37,12 @@ fn no_types(alloc: Global) -> TypeTable
 
 impl<'a> ScopeTypes<'a> {
     /// Around the expressions at module level.
-    pub fn of_module(alloc: Global, set: &'a NamedSet, tables: &'a Tables, home: u32) -> ScopeTypes<'a>
+    pub fn of_module(
+        alloc: Global,
+        set: &'a NamedSet,
+        tables: &'a Tables,
+        home: u32,
+    ) -> ScopeTypes<'a>
         ensures { tables.now ≡ tables_with (known_of set.now.set) set.now →
             around_at result.set.now result.tables.now result.scope result.home result.locals
             ≡ surroundings set.now (record { scope = home; module_number = home; function = None }) }

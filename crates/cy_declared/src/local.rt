@@ -112,7 +112,14 @@ fn note_typed_names<'a>(
 ) -> Noted
     ensures { OnOk result (all_typed_shown out.new.items ≡ all_typed_shown out.old.items ++ typed_names known.now set.now «module» scope (owned_shown owned.entry)) }
 {
-    note_typed_params(known, set, module, owned.owner, owned.function.params(), out)?;
+    note_typed_params(
+        known,
+        set,
+        module,
+        owned.owner,
+        owned.function.params(),
+        out,
+    )?;
     let mut declared = Vec::new(alloc);
     note_declared(alloc, Node::Suite(owned.function.body()), &mut declared)?;
     note_declarations(known, set, scope, declared.as_slice(), out)

@@ -19,20 +19,8 @@ pub fn value_meant(negative: bool, value: u128) -> i128
     ensures { result ≡ value_meant negative value }
 {
     match i128::try_from(value) {
-        Ok(value) => {
-            if negative {
-                -value
-            } else {
-                value
-            }
-        }
-        Err(_) => {
-            if negative {
-                i128::MIN
-            } else {
-                i128::MAX
-            }
-        }
+        Ok(value) => { if negative { -value } else { value } }
+        Err(_) => { if negative { i128::MIN } else { i128::MAX } }
     }
 }
 

@@ -68,7 +68,10 @@ fn note_said(entries: &[MemberRef<'_>], out: &mut Items<OwnMember>) -> Noted
     Ok(())
 }
 
-pub(crate) fn member_table(alloc: Global, entries: &[MemberRef<'_>]) -> Result<MemberTable, OutOfMemory>
+pub(crate) fn member_table(
+    alloc: Global,
+    entries: &[MemberRef<'_>],
+) -> Result<MemberTable, OutOfMemory>
     ensures { IfOk result (λ table. table ≡ member_table (members_shown entries.now)) }
 {
     let mut names = Vec::new(alloc);

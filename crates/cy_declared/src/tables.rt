@@ -157,9 +157,7 @@ impl Tables {
     {
         match at(self.modules.as_slice(), module as usize) {
             None => Ty::Object,
-            Some(tables) => {
-                or_object(at(tables.variables.as_slice(), number as usize).copied())
-            }
+            Some(tables) => { or_object(at(tables.variables.as_slice(), number as usize).copied()) }
         }
     }
 

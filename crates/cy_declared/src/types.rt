@@ -72,11 +72,7 @@ pub fn type_meant(known: &Known, set: &NamedSet, scope: ScopeId, kind: &TypeNode
                 name_meant(known, set, scope, &kind.name)
             }
         }
-        [_, ..] => view_of(
-            kind,
-            element(&kind.name),
-            contiguity(kind.dims.as_slice()),
-        ),
+        [_, ..] => view_of(kind, element(&kind.name), contiguity(kind.dims.as_slice())),
     }
 }
 

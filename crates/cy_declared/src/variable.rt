@@ -49,11 +49,7 @@ fn note_declared_by<'a>(uses: &[TypeUse<'a>], out: &mut Declarations<'a>) -> Not
 }
 
 /// Appends the names that `cdef` declares in a node.
-pub(crate) fn note_declared<'a>(
-    alloc: Global,
-    node: Node<'a>,
-    out: &mut Declarations<'a>,
-) -> Noted
+pub(crate) fn note_declared<'a>(alloc: Global, node: Node<'a>, out: &mut Declarations<'a>) -> Noted
     ensures { OnOk result (declarations_shown out.new.items ≡ declarations_shown out.old.items ++ declared_by (uses (seen node.entry))) }
 {
     let mut found = Vec::new(alloc);

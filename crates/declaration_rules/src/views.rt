@@ -15,7 +15,11 @@ use first_breach::note_if;
 fn judge_view(file: FileId, kind: &TypeNode, least: Least) -> Least
     ensures { IsLeastWith least (view_place file kind.now) result }
 {
-    note_if(has_dims(kind.dims.as_slice()), least, breaks(file, 11, kind.at))
+    note_if(
+        has_dims(kind.dims.as_slice()),
+        least,
+        breaks(file, 11, kind.at),
+    )
 }
 
 fn judge_maybe(file: FileId, kind: &Option<TypeNode>, least: Least) -> Least
@@ -61,7 +65,12 @@ fn judge_heading(file: FileId, is_method: bool, heading: &Heading, least: Least)
 {
     let least = judge_maybe(file, &heading.result, least);
     let is_cpdef_method = is_method && is_cpdef(heading.kind);
-    judge_params(file, is_cpdef_method, heading.header.params.as_slice(), least)
+    judge_params(
+        file,
+        is_cpdef_method,
+        heading.header.params.as_slice(),
+        least,
+    )
 }
 
 fn judge(file: FileId, declaration: Declaration<'_>, least: Least) -> Least

@@ -11,7 +11,10 @@ fn a_variable_has_a_type(rt: HostRuntime) -> Result<(), Fail> {
     let alloc = rt.alloc();
     let mut dims = Items::new(alloc);
     dims.push(Dim { at: 10, step: None })?;
-    dims.push(Dim { at: 13, step: Some(1) })?;
+    dims.push(Dim {
+        at: 13,
+        step: Some(1),
+    })?;
     let kind = TypeNode {
         at: 5,
         constant: false,

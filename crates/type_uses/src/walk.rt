@@ -50,11 +50,7 @@ fn note_result<'a>(kind: &'a Option<TypeNode>, out: &mut Uses<'a>) -> Noted
     Ok(())
 }
 
-fn note_names<'a>(
-    kind: &'a Option<TypeNode>,
-    names: &'a [Declared],
-    out: &mut Uses<'a>,
-) -> Noted
+fn note_names<'a>(kind: &'a Option<TypeNode>, names: &'a [Declared], out: &mut Uses<'a>) -> Noted
     ensures { OnOk result (all_shown out.new.items ≡ all_shown out.old.items ++ names_uses kind.now names.now) }
 {
     for declared in names {

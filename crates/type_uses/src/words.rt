@@ -55,13 +55,7 @@ fn last_is_contiguous(step: Option<u128>) -> Option<bool>
 {
     match step {
         None => Some(false),
-        Some(n) => {
-            if n == 1 {
-                Some(true)
-            } else {
-                None
-            }
-        }
+        Some(n) => { if n == 1 { Some(true) } else { None } }
     }
 }
 

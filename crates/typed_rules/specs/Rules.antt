@@ -35,11 +35,12 @@ use Rattle.cy_tree.specs.declared.ty.Signature.{Signature}
 use Rattle.cy_tree.specs.declared.ty.Ty.{Ty}
 use Rattle.cy_tree.specs.declared.ty.Ty.TheVariants as ty
 use Rattle.cy_tree.specs.declared.types.Ident.{Ident}
-use Rattle.cy_tree.specs.Bases.{as_class_id, base_of, bases, kind_of, kind_of_base}
+use Rattle.cy_tree.specs.Bases.{as_class_id, base_of, bases, kind_of}
 use Rattle.cy_tree.specs.Clauses.{clause_of}
 use Rattle.cy_tree.specs.Coercions.{is_object_or_class, type_eq}
 use Rattle.cy_around.specs.declared.callable.Callable.{Callable}
 use Rattle.cy_scope.specs.declared.known.Known.{Known}
+use Rattle.cy_scope.specs.Declarations.{kind_through}
 use Rattle.cy_declared.specs.declared.member.OwnMember.{OwnMember}
 use Rattle.cy_declared.specs.declared.member.OwnMember.TheVariants as own
 use Rattle.cy_declared.specs.Functions.{callable, callable_heading, value_meant}
@@ -100,21 +101,26 @@ abbrev pub base_found : ℕ → NamedSet → ℕ → Option ClassId → List Ref
 base_found file set at None = breaks file 15 at ∷ []
 base_found file set at (Some class) = broken_if (has_classes 32 set (Some class)) (breaks file 15 at)
 
-abbrev pub base_breaches : ℕ → NamedSet → ℕ → Option ClassBase → List Refusal
-base_breaches file set m None = []
-base_breaches file set m (Some b) = base_found file set (base_at b) (as_class_id (kind_of_base set m (Some b)))
+-- the class that a base means: `A` by the names of the module, `m.A` by those that m's `.pxd` declares
+abbrev pub base_class : Known → NamedSet → ℕ → ClassBase → Option ClassId
+base_class known set m (base.Named i) = as_class_id (kind_of set m i)
+base_class known set m (base.Member outer i) = as_class_id (kind_through known (kind_of set m outer) i.text)
 
-abbrev pub top_base : ℕ → NamedSet → ℕ → Top → List Refusal
-top_base file set m (top.Class c) = base_breaches file set m c.base
-top_base file set m _ = []
+abbrev pub base_breaches : ℕ → Known → NamedSet → ℕ → Option ClassBase → List Refusal
+base_breaches file known set m None = []
+base_breaches file known set m (Some b) = base_found file set (base_at b) (base_class known set m b)
 
-abbrev pub item_base : ℕ → NamedSet → ℕ → PxdItem → List Refusal
-item_base file set m (item.Class c) = base_breaches file set m c.base
-item_base file set m _ = []
+abbrev pub top_base : ℕ → Known → NamedSet → ℕ → Top → List Refusal
+top_base file known set m (top.Class c) = base_breaches file known set m c.base
+top_base file known set m _ = []
 
-abbrev pub bases_breaches : ℕ → NamedSet → ℕ → Content → List Refusal
-bases_breaches file set m (content.Implementation tops) = flat_map (top_base file set m) tops
-bases_breaches file set m (content.Definition items) = flat_map (item_base file set m) items
+abbrev pub item_base : ℕ → Known → NamedSet → ℕ → PxdItem → List Refusal
+item_base file known set m (item.Class c) = base_breaches file known set m c.base
+item_base file known set m _ = []
+
+abbrev pub bases_breaches : ℕ → Known → NamedSet → ℕ → Content → List Refusal
+bases_breaches file known set m (content.Implementation tops) = flat_map (top_base file known set m) tops
+bases_breaches file known set m (content.Definition items) = flat_map (item_base file known set m) items
 
 -- ---- 16: an override whose kind or signature differs; a field that has the name of a base's member, or a member that has that of a
 -- base's field
@@ -256,8 +262,16 @@ is_class _ = false
 abbrev pub def_not_none : ℕ → Known → NamedSet → ℕ → Param → List Refusal
 def_not_none file known set m p = not_none_at file (is_class (maybe_meant known set m p.kind)) p.not_none
 
+-- `self` has its class as type
+abbrev pub self_not_none : ℕ → Known → NamedSet → ℕ → List Param → List Refusal
+self_not_none file known set m [] = []
+self_not_none file known set m (self ∷ ps) = flat_map (def_not_none file known set m) ps
+
+abbrev pub params_not_none : ℕ → Known → NamedSet → ℕ → Bool → List Param → List Refusal
+params_not_none file known set m is_method ps = if is_method then self_not_none file known set m ps else flat_map (def_not_none file known set m) ps
+
 abbrev pub not_none_breaches : ℕ → Known → NamedSet → ℕ → Declaration → List Refusal
-not_none_breaches file known set m (Defined is_method d) = flat_map (def_not_none file known set m) d.params
+not_none_breaches file known set m (Defined is_method d) = params_not_none file known set m is_method d.params
 not_none_breaches file known set m (Headed is_method h) = flat_map (λ p. not_none_at file false p.not_none) h.header.params
 not_none_breaches file known set m (Opened t) = []
 
@@ -267,6 +281,6 @@ not_none_breaches file known set m (Opened t) = []
 abbrev pub typed_breaches : ℕ → Known → NamedSet → ℕ → Content → List Refusal
 typed_breaches file known set m c =
     flat_map (clause_breaches file known set m) (declarations c)
-    ++ (bases_breaches file set m c
+    ++ (bases_breaches file known set m c
     ++ (override_breaches file known set m c
     ++ flat_map (not_none_breaches file known set m) (declarations c)))

@@ -28,7 +28,7 @@ fn judge_all(
     requires { place.tables.now ≡ tables_with place.tables.now.known place.set.now }
     ensures { IfOk result (λ found. IsLeastWith least
         (flat_map (clause_breaches place.entry.file place.entry.tables.now.known place.entry.set.now place.entry.home) (declarations_shown declarations.now)
-        ++ (bases_breaches place.entry.file place.entry.set.now place.entry.home content.now
+        ++ (bases_breaches place.entry.file place.entry.tables.now.known place.entry.set.now place.entry.home content.now
         ++ (override_breaches place.entry.file place.entry.tables.now.known place.entry.set.now place.entry.home content.now
         ++ flat_map (not_none_breaches place.entry.file place.entry.tables.now.known place.entry.set.now place.entry.home) (declarations_shown declarations.now)))) found) }
 {

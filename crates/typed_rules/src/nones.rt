@@ -3,7 +3,7 @@ ghost use Rattle.std.specs.Prelude.{◌≡◌, false};
 ghost use Rattle.std.specs.List.{flat_map};
 ghost use Rattle.declaration_rules.specs.DeclarationsShown.{declaration_shown, declarations_shown};
 ghost use Rattle.first_breach.specs.First.{IsLeastWith};
-ghost use Rattle.typed_rules.specs.Rules.{def_not_none, is_class, not_none_at, not_none_breaches};
+ghost use Rattle.typed_rules.specs.Rules.{def_not_none, is_class, not_none_at, not_none_breaches, params_not_none, self_not_none};
 
 use crate::place::{Least, Place, breaks};
 use cy_base::FileId;
@@ -53,6 +53,26 @@ fn judge_def_params(place: Place<'_>, params: &[Param], least: Least) -> Least
     least
 }
 
+fn judge_method_params(place: Place<'_>, params: &[Param], least: Least) -> Least
+    ensures { IsLeastWith least (self_not_none place.entry.file place.entry.tables.now.known place.entry.set.now place.entry.home params.now) result }
+{
+    match params {
+        [] => least,
+        [_, rest @ ..] => judge_def_params(place, rest, least),
+    }
+}
+
+fn judge_params(place: Place<'_>, is_method: bool, params: &[Param], least: Least) -> Least
+    ensures { IsLeastWith least
+        (params_not_none place.entry.file place.entry.tables.now.known place.entry.set.now place.entry.home is_method params.now) result }
+{
+    if is_method {
+        judge_method_params(place, params, least)
+    } else {
+        judge_def_params(place, params, least)
+    }
+}
+
 fn judge_c_params(file: FileId, params: &[Param], least: Least) -> Least
     ensures { IsLeastWith least (flat_map (λ p. not_none_at file false p.not_none) params.now) result }
 {
@@ -67,7 +87,9 @@ fn judge(place: Place<'_>, declaration: Declaration<'_>, least: Least) -> Least
     ensures { IsLeastWith least (not_none_breaches place.entry.file place.entry.tables.now.known place.entry.set.now place.entry.home (declaration_shown declaration.entry)) result }
 {
     match declaration {
-        Declaration::Defined(_, def) => judge_def_params(place, def.params.as_slice(), least),
+        Declaration::Defined(is_method, def) => {
+            judge_params(place, is_method, def.params.as_slice(), least)
+        }
         Declaration::Headed(_, heading) => {
             judge_c_params(place.file, heading.header.params.as_slice(), least)
         }

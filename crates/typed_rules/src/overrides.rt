@@ -13,9 +13,7 @@ use cy_around::Callable;
 use cy_base::OutOfMemory;
 use cy_coerce::class_declared;
 use cy_declared::{OwnMember, Tables, callable_heading};
-use cy_tree::{
-    ClassId, Content, Def, Heading, Ident, Member, NamedSet, PxdItem, PxdMember, Top,
-};
+use cy_tree::{ClassId, Content, Def, Heading, Ident, Member, NamedSet, PxdItem, PxdMember, Top};
 use first_breach::note_if;
 use std::alloc::Global;
 
@@ -54,7 +52,13 @@ fn c_breaks(set: &NamedSet, tables: &Tables, method: &Callable, above: &[OwnMemb
     has_field(above) || c_differs(set, tables, method, first_method(above))
 }
 
-fn judge_field(alloc: Global, place: Place<'_>, class: ClassId, name: &Ident, least: Least) -> Judged
+fn judge_field(
+    alloc: Global,
+    place: Place<'_>,
+    class: ClassId,
+    name: &Ident,
+    least: Least,
+) -> Judged
     requires { place.tables.now ≡ tables_with place.tables.now.known place.set.now }
     ensures { IfOk result (λ found. IsLeastWith least (field_breaches place.entry.file place.entry.tables.now.known place.entry.set.now class name.now) found) }
 {
@@ -63,7 +67,13 @@ fn judge_field(alloc: Global, place: Place<'_>, class: ClassId, name: &Ident, le
     Ok(note_if(is_broken, least, breaks(place.file, 16, name.at)))
 }
 
-fn judge_fields(alloc: Global, place: Place<'_>, class: ClassId, names: &[Ident], least: Least) -> Judged
+fn judge_fields(
+    alloc: Global,
+    place: Place<'_>,
+    class: ClassId,
+    names: &[Ident],
+    least: Least,
+) -> Judged
     requires { place.tables.now ≡ tables_with place.tables.now.known place.set.now }
     ensures { IfOk result (λ found. IsLeastWith least
         (flat_map (field_breaches place.entry.file place.entry.tables.now.known place.entry.set.now class) names.now) found) }

@@ -7,5 +7,5 @@ use Rattle.typed_rules.proofs.bases.judge_items.Given as goal
 
 abbrev pub invariant-loop-item : goal.invariant-loop-item
 invariant-loop-item l =
-    (last : Option Refusal) → IsLeastWith l.least (flat_map (item_base l.place.file l.place.set.now l.place.home) (drop l.item-index l.items)) last
-    → IsLeastWith l.initial.least (flat_map (item_base l.place.file l.place.set.now l.place.home) (l.items)) last
+    (last : Option Refusal) → IsLeastWith l.least (flat_map (item_base l.place.file l.place.tables.now.known l.place.set.now l.place.home) (drop l.item-index l.items)) last
+    → IsLeastWith l.initial.least (flat_map (item_base l.place.file l.place.tables.now.known l.place.set.now l.place.home) (l.items)) last

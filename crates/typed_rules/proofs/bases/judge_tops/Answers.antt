@@ -11,10 +11,10 @@ loop-top-preserved c = λ last it.
     let least = c.loop-top.least in
     let rest = drop (c.loop-top.top-index + 1) c.args.tops.now in
     c.loop-top.invariant last
-    (next (λ xs. IsLeastWith least (flat_map (top_base c.args.place.file c.args.place.set.now c.args.place.home) (xs)) last) c.args.tops.now c.loop-top.top-index c.top-item.result c.loop-top-test.true c.top-item.is
-    (with-both least c.judge_top-least.result last (top_base c.args.place.file c.args.place.set.now c.args.place.home c.top-item.result) (flat_map (top_base c.args.place.file c.args.place.set.now c.args.place.home) (rest)) c.judge_top-least.ensures it))
+    (next (λ xs. IsLeastWith least (flat_map (top_base c.args.place.file c.args.place.tables.now.known c.args.place.set.now c.args.place.home) (xs)) last) c.args.tops.now c.loop-top.top-index c.top-item.result c.loop-top-test.true c.top-item.is
+    (with-both least c.judge_top-least.result last (top_base c.args.place.file c.args.place.tables.now.known c.args.place.set.now c.args.place.home c.top-item.result) (flat_map (top_base c.args.place.file c.args.place.tables.now.known c.args.place.set.now c.args.place.home) (rest)) c.judge_top-least.ensures it))
 
 pub returns : goal.returns
 returns c =
     c.loop-top.invariant c.loop-top.least
-    (ended (λ xs. IsLeastWith c.loop-top.least (flat_map (top_base c.args.place.file c.args.place.set.now c.args.place.home) (xs)) c.loop-top.least) c.args.tops.now c.loop-top.top-index c.loop-top-test.false (with-none c.loop-top.least))
+    (ended (λ xs. IsLeastWith c.loop-top.least (flat_map (top_base c.args.place.file c.args.place.tables.now.known c.args.place.set.now c.args.place.home) (xs)) c.loop-top.least) c.args.tops.now c.loop-top.top-index c.loop-top-test.false (with-none c.loop-top.least))

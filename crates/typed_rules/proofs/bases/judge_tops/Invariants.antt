@@ -7,5 +7,5 @@ use Rattle.typed_rules.proofs.bases.judge_tops.Given as goal
 
 abbrev pub invariant-loop-top : goal.invariant-loop-top
 invariant-loop-top l =
-    (last : Option Refusal) → IsLeastWith l.least (flat_map (top_base l.place.file l.place.set.now l.place.home) (drop l.top-index l.tops)) last
-    → IsLeastWith l.initial.least (flat_map (top_base l.place.file l.place.set.now l.place.home) (l.tops)) last
+    (last : Option Refusal) → IsLeastWith l.least (flat_map (top_base l.place.file l.place.tables.now.known l.place.set.now l.place.home) (drop l.top-index l.tops)) last
+    → IsLeastWith l.initial.least (flat_map (top_base l.place.file l.place.tables.now.known l.place.set.now l.place.home) (l.tops)) last
