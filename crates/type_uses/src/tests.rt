@@ -5,6 +5,14 @@ use cy_tree::{Declared, Dim, Ident, Node, NumberWords, Ty, TypeName, TypeNode, V
 use sqlite_items::Items;
 use std::test::Fail;
 
+fn place(found: TypeUse<'_>) -> u32 {
+    match found {
+        TypeUse::PlaceType(kind) => kind.at,
+        TypeUse::ResultType(kind) => kind.at,
+        TypeUse::Declares(name, _) => name.at,
+    }
+}
+
 // `cdef long[:, ::1] a`
 #[test]
 fn a_variable_has_a_type(rt: HostRuntime) -> Result<(), Fail> {
@@ -33,12 +41,11 @@ fn a_variable_has_a_type(rt: HostRuntime) -> Result<(), Fail> {
     let mut uses = Vec::new(alloc);
     note_uses(Node::Variables(&variables), &mut uses)?;
     assert_eq!(rt; uses.len(), 2);
-    match uses.as_slice() {
-        [TypeUse::PlaceType(kind), TypeUse::Declares(name, _)] => {
-            assert_eq!(rt; kind.at, 5);
-            assert_eq!(rt; name.at, 18);
-        }
-        _ => assert!(rt; false, "a type, and a name"),
-    }
+    let [first, second] = uses.as_slice() else {
+        assert!(rt; false, "a type, and a name");
+        return Ok(());
+    };
+    assert_eq!(rt; place(*first), 5);
+    assert_eq!(rt; place(*second), 18);
     Ok(())
 }
