@@ -9,5 +9,7 @@ mod nones;
 mod overrides;
 mod place;
 mod same;
+#[cfg(test)]
+mod tests;
 
 pub use file::typed;
