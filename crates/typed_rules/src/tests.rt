@@ -40,19 +40,19 @@ fn self_alone(alloc: Global, at: u32) -> Result<Items<Param>, OutOfMemory> {
 // `cdef int m(self): pass`
 fn method(alloc: Global, at: u32) -> Result<Member, OutOfMemory> {
     let header = Header {
-        params: self_alone(alloc, at + 11)?,
+        params: self_alone(alloc, at)?,
         clause: None,
         nogil: None,
     };
     let heading = Heading {
         at,
         kind: CKind::Cdef,
-        result: int(alloc, at + 5),
-        name: named(alloc, at + 9, "m")?,
+        result: int(alloc, at),
+        name: named(alloc, at, "m")?,
         header,
     };
     let mut simples = Items::new(alloc);
-    simples.push(Simple::Pass(at + 18))?;
+    simples.push(Simple::Pass(at))?;
     let body = Suite::Inline(Line { simples });
     Ok(Member::Method(CFunction { heading, body }))
 }
@@ -60,18 +60,24 @@ fn method(alloc: Global, at: u32) -> Result<Member, OutOfMemory> {
 // `cdef n`
 fn field(alloc: Global, at: u32) -> Result<Member, OutOfMemory> {
     let mut names = Items::new(alloc);
-    names.push(named(alloc, at + 5, "n")?)?;
+    names.push(named(alloc, at, "n")?)?;
     Ok(Member::Fields(at, None, names))
 }
 
 // A class with a method and a field.
-fn class(alloc: Global, at: u32, name: &str, base: Option<ClassBase>) -> Result<Top, OutOfMemory> {
+fn class(
+    alloc: Global,
+    at: u32,
+    field_at: u32,
+    name: &str,
+    base: Option<ClassBase>,
+) -> Result<Top, OutOfMemory> {
     let mut members = Items::new(alloc);
-    members.push(method(alloc, at + 20)?)?;
-    members.push(field(alloc, at + 50)?)?;
+    members.push(method(alloc, at)?)?;
+    members.push(field(alloc, field_at)?)?;
     Ok(Top::Class(Class {
         at,
-        name: named(alloc, at + 11, name)?,
+        name: named(alloc, at, name)?,
         base,
         members,
     }))
@@ -80,9 +86,9 @@ fn class(alloc: Global, at: u32, name: &str, base: Option<ClassBase>) -> Result<
 // Two classes with the same members, the first the base of the second.
 fn two_classes(alloc: Global) -> Result<SourceSet, OutOfMemory> {
     let mut tops = Items::new(alloc);
-    tops.push(class(alloc, 0, "A", None)?)?;
+    tops.push(class(alloc, 0, 50, "A", None)?)?;
     let base = ClassBase::Named(named(alloc, 113, "A")?);
-    tops.push(class(alloc, 100, "B", Some(base))?)?;
+    tops.push(class(alloc, 100, 155, "B", Some(base))?)?;
     let mut files = Items::new(alloc);
     files.push(ParsedFile {
         name: Text::from_str(alloc, "a.pyx")?,
