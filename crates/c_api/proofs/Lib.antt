@@ -1,2 +1,5 @@
 pub mod Appended
+pub mod Counted
+pub mod Meeting
+pub mod Needed
 pub mod Nested

@@ -5,6 +5,8 @@ mod copies;
 mod kinds;
 mod names;
 mod parts;
+#[cfg(test)]
+mod tests;
 mod values;
 
 pub use copies::{copied_bytes, copied_instance, copied_objects, copied_reading, copied_value};
