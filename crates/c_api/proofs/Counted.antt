@@ -1,18 +1,25 @@
 -- Lists of as many objects as there are operands.
-use Rattle.std.proofs.Common.{◌≡◌, ℕ, zero, suc, ◌+◌, List, [], ◌∷◌, ◌++◌, length, refl, ap}
+use Rattle.std.proofs.Common.{◌≡◌, ℕ, zero, suc, ◌+◌, ◌≤◌, List, [], ◌∷◌, ◌++◌, length, drop, refl, ap, arith}
 use Rattle.c_state.specs.declared.kind.Kind.{Kind}
 use Rattle.c_state.specs.declared.kind.Kind.TheVariants as kind
 use Rattle.c_state.specs.declared.value.Reading.{Reading}
 use Rattle.c_state.specs.Rows.{objects, all_but_last}
 
+one_more : (n : ℕ) → objects n ++ kind.Object ∷ [] ≡ objects (suc n)
+one_more zero = refl
+one_more (suc n) = ap (λ ks. kind.Object ∷ ks) (one_more n)
+
 -- one more
-pub objects-more : (n : ℕ) → objects n ++ kind.Object ∷ [] ≡ objects (suc n)
-objects-more zero = refl
-objects-more (suc n) = ap (λ ks. kind.Object ∷ ks) (objects-more n)
+pub objects-more : (n : ℕ) → objects n ++ kind.Object ∷ [] ≡ objects (n + 1)
+objects-more n = let e : n + 1 ≡ suc n = omega arith in rw e (one_more n)
+
+last_is_null : (v : Reading) (vs : List Reading) → all_but_last (v ∷ vs) ≡ objects (length vs) ++ kind.Null ∷ []
+last_is_null v [] = refl
+last_is_null v (w ∷ vs) = ap (λ ks. kind.Object ∷ ks) (last_is_null w vs)
 
 -- the last operand is NULL
-pub all_but_last-is : (v : Reading) (vs : List Reading) → all_but_last (v ∷ vs) ≡ objects (length vs) ++ kind.Null ∷ []
-all_but_last-is v [] = refl
-all_but_last-is v (w ∷ vs) = ap (λ ks. kind.Object ∷ ks) (all_but_last-is w vs)
+pub all_but_last-is : (vs : List Reading) → 1 ≤ length vs → objects (length (drop 1 vs)) ++ kind.Null ∷ [] ≡ all_but_last vs
+all_but_last-is [] h = absurd (omega (arith, h))
+all_but_last-is (v ∷ vs) h = rw (last_is_null v vs) refl
 
 pub ruleset counted = (objects-more, all_but_last-is)

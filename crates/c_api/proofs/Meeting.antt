@@ -1,19 +1,49 @@
 -- The next operand where it meets its type.
-use Rattle.std.proofs.Common.{◌≡◌, ℕ, zero, suc, List, [], ◌∷◌, drop, refl}
+use Rattle.std.proofs.Common.{◌≡◌, ℕ, zero, suc, ◌+◌, ◌≤◌, List, [], ◌∷◌, ◌++◌, length, drop, refl, sym, ap, ◌∙◌, arith}
+use Rattle.std.proofs.Math.ListN.{drop_of_length-le}
 use Rattle.c_state.specs.declared.kind.Kind.{Kind}
 use Rattle.c_state.specs.declared.value.Value.{Value}
+use Rattle.c_state.specs.declared.value.Reading.{Reading}
+use Rattle.c_state.specs.Values.{values_of}
 use Rattle.c_state.specs.Rows.{converted_by}
 use Rattle.c_api.specs.Meeting.{met}
 
-pub converted_by-next : (ks : List Kind) (i : ℕ) (v : Value) (vs : List Value) → converted_by (drop i ks) (v ∷ vs) ≡ met ks i v ∷ converted_by (drop (suc i) ks) vs
-converted_by-next [] zero v vs = refl
-converted_by-next [] (suc i) v vs = refl
-converted_by-next (k ∷ ks) zero v vs = refl
-converted_by-next (k ∷ ks) (suc i) v vs = converted_by-next ks i v vs
+next : (ks : List Kind) (i : ℕ) (v : Value) (vs : List Value) → converted_by (drop i ks) (v ∷ vs) ≡ met ks i v ∷ converted_by (drop (suc i) ks) vs
+next [] zero v vs = refl
+next [] (suc i) v vs = refl
+next (k ∷ ks) zero v vs = refl
+next (k ∷ ks) (suc i) v vs = next ks i v vs
+
+pub converted_by-next : (ks : List Kind) (i : ℕ) (v : Value) (vs : List Value) → converted_by (drop i ks) (v ∷ vs) ≡ met ks i v ∷ converted_by (drop (i + 1) ks) vs
+converted_by-next ks i v vs = let e : i + 1 ≡ suc i = omega arith in rw e (next ks i v vs)
+
+none : (ks : List Kind) → converted_by ks [] ≡ []
+none [] = refl
+none (k ∷ ks) = refl
 
 -- with no operand left none is converted
-pub converted_by-none : (ks : List Kind) → converted_by ks [] ≡ []
-converted_by-none [] = refl
-converted_by-none (k ∷ ks) = refl
+pub converted_by-end : (ks : List Kind) (rs : List Reading) (n : ℕ) → length rs ≤ n → converted_by (drop n ks) (values_of (drop n rs)) ≡ []
+converted_by-end ks rs n h = rw (drop_of_length-le rs h) (none (drop n ks))
 
-pub ruleset meeting = (converted_by-next, converted_by-none)
+nil : (values : List Value) → values ++ [] ≡ values
+nil [] = refl
+nil (v ∷ vs) = ap (λ t. v ∷ t) (nil vs)
+
+-- all are converted
+pub all_met : (ks : List Kind) (rs : List Reading) (n : ℕ) (values : List Value) → length rs ≤ n
+    → converted_by ks (values_of rs) ≡ values ++ converted_by (drop n ks) (values_of (drop n rs)) → values ≡ converted_by ks (values_of rs)
+all_met ks rs n values h e = sym (e ∙ (ap (λ t. values ++ t) (converted_by-end ks rs n h) ∙ nil values))
+
+join : (values : List Value) (v : Value) (vs : List Value) → values ++ v ∷ vs ≡ (values ++ v ∷ []) ++ vs
+join [] v vs = refl
+join (w ∷ ws) v vs = ap (λ t. w ∷ t) (join ws v vs)
+
+-- one more is converted
+pub one_met : (ks : List Kind) (rs : List Reading) (i : ℕ) (r : Reading) (values new : List Value) → drop i rs ≡ r ∷ drop (i + 1) rs
+    → new ≡ values ++ met ks i r.value ∷ []
+    → converted_by ks (values_of rs) ≡ values ++ converted_by (drop i ks) (values_of (drop i rs))
+    → converted_by ks (values_of rs) ≡ new ++ converted_by (drop (i + 1) ks) (values_of (drop (i + 1) rs))
+one_met ks rs i r values new d e h =
+    h ∙ (ap (λ t. values ++ t) (ap (λ q. converted_by (drop i ks) (values_of q)) d ∙ converted_by-next ks i r.value (values_of (drop (i + 1) rs)))
+    ∙ (join values (met ks i r.value) (converted_by (drop (i + 1) ks) (values_of (drop (i + 1) rs)))
+    ∙ ap (λ t. t ++ converted_by (drop (i + 1) ks) (values_of (drop (i + 1) rs))) (sym e)))

@@ -190,7 +190,6 @@ fn met(kinds: &[Kind], at: usize, value: Value) -> Value
 }
 
 /// The operands as they are where they meet types.
-#[tactic(auto, using(crate::proofs::Meeting::meeting))]
 pub fn converted_by(
     alloc: Global,
     kinds: &[Kind],
