@@ -1,5 +1,6 @@
 -- Lists of as many objects as there are operands.
-use Rattle.std.proofs.Common.{◌≡◌, ℕ, zero, suc, ◌+◌, ◌≤◌, List, [], ◌∷◌, ◌++◌, length, drop, refl, ap, arith}
+use Rattle.std.proofs.Common.{◌≡◌, ℕ, zero, suc, ◌+◌, ◌-◌, ◌≤◌, List, [], ◌∷◌, ◌++◌, length, drop, take, refl, sym, ap, ◌∙◌, arith}
+use Rattle.std.proofs.Math.Seq.{take-length}
 use Rattle.c_state.specs.declared.kind.Kind.{Kind}
 use Rattle.c_state.specs.declared.kind.Kind.TheVariants as kind
 use Rattle.c_state.specs.declared.value.Reading.{Reading}
@@ -18,8 +19,12 @@ last_is_null v [] = refl
 last_is_null v (w ∷ vs) = ap (λ ks. kind.Object ∷ ks) (last_is_null w vs)
 
 -- the last operand is NULL
-pub all_but_last-is : (vs : List Reading) → 1 ≤ length vs → objects (length (drop 1 vs)) ++ kind.Null ∷ [] ≡ all_but_last vs
-all_but_last-is [] h = absurd (omega (arith, h))
-all_but_last-is (v ∷ vs) h = rw (last_is_null v vs) refl
+pub all_but_last-is : (vs : List Reading) (kinds new : List Kind) → 1 ≤ length vs → kinds ≡ objects (length (take (length vs - 1) (drop 1 vs)))
+    → new ≡ kinds ++ kind.Null ∷ [] → new ≡ all_but_last vs
+all_but_last-is [] kinds new h e f = absurd (omega (arith, h))
+all_but_last-is (v ∷ vs) kinds new h e f =
+    let n : length (v ∷ vs) - 1 ≡ length vs = omega arith in
+    let t : take (length (v ∷ vs) - 1) vs ≡ vs = ap (λ k. take k vs) n ∙ take-length vs in
+    f ∙ (ap (λ ks. ks ++ kind.Null ∷ []) (e ∙ ap (λ xs. objects (length xs)) t) ∙ sym (last_is_null v vs))
 
-pub ruleset counted = (objects-more, all_but_last-is)
+pub ruleset counted = (objects-more)

@@ -1,5 +1,5 @@
 -- The next operand where it meets its type.
-use Rattle.std.proofs.Common.{◌≡◌, ℕ, zero, suc, ◌+◌, ◌≤◌, List, [], ◌∷◌, ◌++◌, length, drop, refl, sym, ap, ◌∙◌, arith}
+use Rattle.std.proofs.Common.{◌≡◌, ℕ, zero, suc, ◌+◌, ◌<◌, ◌≤◌, List, [], ◌∷◌, ◌++◌, length, drop, slice_index_or, refl, sym, ap, ◌∙◌, arith}
 use Rattle.std.proofs.Math.ListN.{drop_of_length-le}
 use Rattle.c_state.specs.declared.kind.Kind.{Kind}
 use Rattle.c_state.specs.declared.value.Value.{Value}
@@ -38,12 +38,19 @@ join : (values : List Value) (v : Value) (vs : List Value) → values ++ v ∷ v
 join [] v vs = refl
 join (w ∷ ws) v vs = ap (λ t. w ∷ t) (join ws v vs)
 
+at_head : (rs : List Reading) (i : ℕ) (r : Reading) → i < length rs → r ≡ slice_index_or rs i r → drop i rs ≡ r ∷ drop (i + 1) rs
+at_head [] i r h e = absurd (omega (arith, h))
+at_head (x ∷ xs) zero r h e = ap (λ t. t ∷ xs) (sym e)
+at_head (x ∷ xs) (suc i) r h e = let q : suc i + 1 ≡ suc (i + 1) = omega arith in rw q (at_head xs i r (omega (arith, h)) e)
+
 -- one more is converted
-pub one_met : (ks : List Kind) (rs : List Reading) (i : ℕ) (r : Reading) (values new : List Value) → drop i rs ≡ r ∷ drop (i + 1) rs
-    → new ≡ values ++ met ks i r.value ∷ []
+pub one_met : (ks : List Kind) (rs : List Reading) (i : ℕ) (r : Reading) (v m : Value) (values new : List Value) → i < length rs → r ≡ slice_index_or rs i r
+    → v ≡ r.value → m ≡ met ks i v → new ≡ values ++ m ∷ []
     → converted_by ks (values_of rs) ≡ values ++ converted_by (drop i ks) (values_of (drop i rs))
     → converted_by ks (values_of rs) ≡ new ++ converted_by (drop (i + 1) ks) (values_of (drop (i + 1) rs))
-one_met ks rs i r values new d e h =
-    h ∙ (ap (λ t. values ++ t) (ap (λ q. converted_by (drop i ks) (values_of q)) d ∙ converted_by-next ks i r.value (values_of (drop (i + 1) rs)))
-    ∙ (join values (met ks i r.value) (converted_by (drop (i + 1) ks) (values_of (drop (i + 1) rs)))
-    ∙ ap (λ t. t ++ converted_by (drop (i + 1) ks) (values_of (drop (i + 1) rs))) (sym e)))
+one_met ks rs i r v m values new within at same is e h =
+    let rest : List Value = converted_by (drop (i + 1) ks) (values_of (drop (i + 1) rs)) in
+    let met_is : m ≡ met ks i r.value = is ∙ ap (met ks i) same in
+    let step : converted_by (drop i ks) (values_of (drop i rs)) ≡ met ks i r.value ∷ rest =
+      ap (λ q. converted_by (drop i ks) (values_of q)) (at_head rs i r within at) ∙ converted_by-next ks i r.value (values_of (drop (i + 1) rs)) in
+    h ∙ (ap (λ t. values ++ t) (step ∙ ap (λ q. q ∷ rest) (sym met_is)) ∙ (join values m rest ∙ ap (λ t. t ++ rest) (sym e)))

@@ -1,10 +1,15 @@
 //! What a function of the Python/C API asks: its operation, what an answer may add, and the change.
-ghost use Rattle.std.specs.Prelude.{◌≡◌};
-ghost use Rattle.c_state.specs.Rows.{clean_fault, error_by, given_by, making_of, making_of_type, number_given, sets_error};
+ghost use Rattle.std.specs.Prelude.{◌≡◌, IfOk};
+ghost use Rattle.c_state.specs.Rows.{asking, clean_fault, error_by, given_by, making_of, making_of_type, number_given, sets_error};
 
-use api_model::{ApiRow, Gives};
-use c_state::{Api, ErrorChange, FaultKind, Kind, Making, Value};
+use crate::answered::nothing;
+use crate::copied::copied_op;
+use api_model::{ApiRow, Event, Gives, Op};
+use c_state::{Api, Change, Doing, ErrorChange, FaultKind, Kind, Making, Value};
+use c_tree::Variable;
+use cy_base::OutOfMemory;
 use cy_num::CNum;
+use std::alloc::Global;
 
 /// The type of what a function gives that gives neither an object nor nothing.
 pub fn number_given(api: Api) -> Kind
@@ -77,4 +82,25 @@ pub fn making_of(api: Api, values: &[Value]) -> Making
         Api::MemoryViewFromObject => Making::View,
         _ => Making::Nothing,
     }
+}
+
+/// The change of a call that asks the outside.
+pub fn asking(
+    alloc: Global,
+    api: Api,
+    row: ApiRow,
+    target: Option<Variable>,
+    values: &[Value],
+    operation: Op,
+) -> Result<Change, OutOfMemory>
+    ensures { IfOk result (λ r. r ≡ asking api row target values.now operation) }
+{
+    let asked = copied_op(alloc, &operation)?;
+    Ok(Change {
+        event: Some(Event::Ask(asked)),
+        ends_loans: true,
+        error: error_by(api),
+        doing: Some(Doing::Asks(operation, row, making_of(api, values), target)),
+        ..nothing(alloc)
+    })
 }

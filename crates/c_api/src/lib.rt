@@ -3,6 +3,7 @@
 
 mod answered;
 mod asked;
+mod copied;
 mod named;
 mod operation;
 mod shapes;
@@ -11,9 +12,10 @@ mod texts;
 mod wanted;
 
 pub use answered::{answering, error_of, failure_of, gains_of, lends_of, made, nothing, value_of};
+pub use copied::copied_op;
 pub use named::api_named;
 pub use wanted::{are_needed, converted_by, operands, values_by};
-pub use asked::{clean_fault, error_by, given_by, making_of, number_given, sets_error};
+pub use asked::{asking, clean_fault, error_by, given_by, making_of, number_given, sets_error};
 pub use operation::{op_of, type_wanted};
 pub use shapes::{One, Three, Two, one_object, three_objects, two_objects};
 pub use suited::{comparison_of, suit_row, suit_values};

@@ -334,7 +334,7 @@ fn fail_of(alloc: Global, values: &[Value]) -> Result<Option<Op>, OutOfMemory>
 }
 
 fn alloc_class(alloc: Global, found: Option<&TypeObject>) -> Result<Option<Op>, OutOfMemory>
-    ensures { IfOk result (λ r. r ≡ with_class_of (option_copied found) (λ n. Some (op.Alloc n))) }
+    ensures { IfOk result (λ r. r ≡ with_class_of (option_copied found.entry) (λ n. Some (op.Alloc n))) }
 {
     match found {
         Some(class) => Ok(Some(Op::Alloc(class_named(alloc, class.name.as_slice())?))),
@@ -343,7 +343,7 @@ fn alloc_class(alloc: Global, found: Option<&TypeObject>) -> Result<Option<Op>, 
 }
 
 fn ready_class(alloc: Global, found: Option<&TypeObject>) -> Result<Option<Op>, OutOfMemory>
-    ensures { IfOk result (λ r. r ≡ with_class_of (option_copied found) (λ n. Some (op.Change (change.Ready n)))) }
+    ensures { IfOk result (λ r. r ≡ with_class_of (option_copied found.entry) (λ n. Some (op.Change (change.Ready n)))) }
 {
     match found {
         Some(class) => {
@@ -359,7 +359,7 @@ fn alloc_of(
     found: Option<&TypeObject>,
     values: &[Value],
 ) -> Result<Option<Op>, OutOfMemory>
-    ensures { (files : List CFile) → option_copied found ≡ type_found files values.now → IfOk result (λ r. r ≡ alloc_of files values.now) }
+    ensures { (files : List CFile) → option_copied found.entry ≡ type_found files values.now → IfOk result (λ r. r ≡ alloc_of files values.now) }
 {
     match values {
         [Value::TypeObject(_, _), _] => alloc_class(alloc, found),
@@ -372,7 +372,7 @@ fn ready_of(
     found: Option<&TypeObject>,
     values: &[Value],
 ) -> Result<Option<Op>, OutOfMemory>
-    ensures { (files : List CFile) → option_copied found ≡ type_found files values.now → IfOk result (λ r. r ≡ ready_of files values.now) }
+    ensures { (files : List CFile) → option_copied found.entry ≡ type_found files values.now → IfOk result (λ r. r ≡ ready_of files values.now) }
 {
     match values {
         [Value::TypeObject(_, _)] => ready_class(alloc, found),
@@ -389,7 +389,7 @@ pub fn op_of(
     values: &[Value],
 ) -> Result<Option<Op>, OutOfMemory>
     requires { AreInRange api values.now }
-    ensures { (files : List CFile) → option_copied found ≡ type_found files values.now → IfOk result (λ r. r ≡ op_of files api values.now) }
+    ensures { (files : List CFile) → option_copied found.entry ≡ type_found files values.now → IfOk result (λ r. r ≡ op_of files api values.now) }
 {
     match api {
         Api::Binary(op) => two_objects(alloc, Two::Binary(op), values),

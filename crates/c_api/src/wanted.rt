@@ -1,6 +1,7 @@
 //! The operands of a function of the Python/C API: their types, and what they are where they meet the types.
 ghost use Rattle.std.specs.Prelude.{◌≡◌, ◌∷◌, [], IfOk, length};
 ghost use Rattle.c_api.specs.Meeting.{met};
+ghost use Rattle.c_api.specs.Ranges.{AreInRange};
 ghost use Rattle.c_state.specs.Rows.{all_but_last, are_needed, converted_by, is_needed, objects, operands, packed, ulong, values_by};
 ghost use Rattle.c_state.specs.Stores.{is_tuple};
 ghost use Rattle.c_state.specs.Values.{values_of};
@@ -57,7 +58,6 @@ fn objects(alloc: Global, readings: &[Reading]) -> Result<Items<Kind>, OutOfMemo
     Ok(kinds)
 }
 
-#[tactic(auto, using(crate::proofs::Counted::counted))]
 fn all_but_last(alloc: Global, readings: &[Reading]) -> Result<Items<Kind>, OutOfMemory>
     ensures { IfOk result (λ r. r ≡ all_but_last readings.now) }
 {
@@ -206,12 +206,14 @@ pub fn converted_by(
 }
 
 /// The operands as they are where they meet the types of a function.
+#[tactic(auto, using(crate::proofs::InRange::in_range))]
 pub fn values_by(
     alloc: Global,
     api: Api,
     readings: &[Reading],
 ) -> Result<Items<Value>, OutOfMemory>
-    ensures { IfOk result (λ r. r ≡ values_by api readings.now) }
+    ensures same { IfOk result (λ r. r ≡ values_by api readings.now) }
+    ensures range { IfOk result (λ r. AreInRange api r) }
 {
     let kinds = operands(alloc, api, readings)?;
     converted_by(alloc, kinds.as_slice(), readings)
