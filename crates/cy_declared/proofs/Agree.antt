@@ -19,11 +19,11 @@ use Rattle.cy_scope.specs.Files.{Module, modules}
 use Rattle.cy_declared.specs.declared.local.TypeTable.{TypeTable}
 use Rattle.cy_declared.specs.declared.tables.ModuleTables.{ModuleTables}
 use Rattle.cy_declared.specs.declared.tables.Tables.{Tables}
-use Rattle.cy_declared.specs.Around.{around_with, exported, surroundings}
+use Rattle.cy_declared.specs.Around.{exported, surroundings}
 use Rattle.cy_declared.specs.Functions.{Owned, among, callable, callables, joined}
 use Rattle.cy_declared.specs.Members.{MemberEntry, as_said, class_members, first_said, member_in, member_of, own_member}
 use Rattle.cy_declared.specs.Named.{first_among}
-use Rattle.cy_declared.specs.Tables.{around_at, function_at, functions_in, looked_up, member_at, member_table, module_tables, no_types, nearest_among, nearest_member, own_member_at, tables_with, type_at, type_table, variable_at}
+use Rattle.cy_declared.specs.Tables.{around_at, function_at, functions_in, looked_up, member_at, member_table, module_tables, no_types, nearest_member, own_member_at, tables_with, type_at, type_table, variable_at}
 use Rattle.cy_declared.specs.Types.{meaning_in, or_object}
 use Rattle.cy_declared.specs.Variables.{Typed, local_type, named_at, typed_as, typed_names, variable_type, variable_types}
 use Rattle.cy_declared.proofs.Numbered.{found-first}

@@ -1,5 +1,5 @@
 -- What a table of names says is what the list says.
-use Rattle.std.proofs.Common.{◌≡◌, ℕ, suc, ◌+◌, length, slice_get, List, [], ◌∷◌, ◌++◌, map, Option, Some, None, Bool, true, false, if◌then◌else◌, refl, ap, sym, ◌∙◌, append_assoc, arith}
+use Rattle.std.proofs.Common.{◌≡◌, ℕ, suc, length, slice_get, List, [], ◌∷◌, ◌++◌, map, Option, Some, Bool, true, false, if◌then◌else◌, refl, ap, sym, ◌∙◌, append_assoc}
 use Rattle.std.specs.Str.{bytes_eq}
 use Rattle.cy_tree.specs.declared.set.NameKind.{NameKind}
 use Rattle.cy_tree.specs.declared.set.NameKind.TheVariants as kind

@@ -1,5 +1,5 @@
 -- The name at a place of a map.
-use Rattle.std.proofs.Common.{◌≡◌, ℕ, List, map, slice_get, ◌∙◌, ap}
+use Rattle.std.proofs.Common.{◌≡◌, ℕ, List, slice_get, ◌∙◌, ap}
 use Rattle.std.specs.Option.{option_map}
 use Rattle.std.specs.declared.vec.Vec.{Vec}
 use Rattle.std.proofs.lemmas.Option.{slice_get-map}

@@ -1,7 +1,6 @@
 -- The functions of modules, with the classes whose methods they are, and the signatures of C functions (Cython documentation,
 -- "Language Basics", "Python functions vs. C functions"; "Extension Types"; "Error return values").
 use Rattle.std.specs.Prelude.{ℕ, suc, ◌-◌, ◌^◌, Bool, true, false, if◌then◌else◌, nat_lt, ℤ, pos, neg_ℤ, List, [], ◌∷◌, ◌++◌, map, Option, Some, None, is_some, slice_get}
-use Rattle.std.specs.List.{flat_map}
 use Rattle.cy_tree.specs.declared.decl.ClauseNode.{ClauseNode}
 use Rattle.cy_tree.specs.declared.decl.ClauseNode.TheVariants as written
 use Rattle.cy_tree.specs.declared.decl.Heading.{Heading}

@@ -1,8 +1,7 @@
 -- The members of extension classes by name, and those of their bases (Cython documentation, "Extension Types"; "Sharing Declarations
 -- Between Cython Modules").
-use Rattle.std.specs.Prelude.{ℕ, suc, ◌+◌, if◌then◌else◌, List, [], ◌∷◌, ◌++◌, map, length, Option, Some, None, slice_get}
+use Rattle.std.specs.Prelude.{ℕ, ◌+◌, List, [], ◌∷◌, ◌++◌, map, length, Option, Some, None, slice_get}
 use Rattle.std.specs.List.{flat_map}
-use Rattle.std.specs.Str.{bytes_eq}
 use Rattle.cy_tree.specs.declared.decl.Class.{Class}
 use Rattle.cy_tree.specs.declared.decl.Member.{Member}
 use Rattle.cy_tree.specs.declared.decl.Member.TheVariants as member

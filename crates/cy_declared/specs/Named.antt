@@ -1,5 +1,5 @@
 -- Lists of names with what is said of each, and tables of them: a number for each name, and a list by the numbers. The project's own.
-use Rattle.std.specs.Prelude.{ℕ, suc, if◌then◌else◌, List, [], ◌∷◌, map, Option, Some, None, slice_get}
+use Rattle.std.specs.Prelude.{ℕ, suc, if◌then◌else◌, List, [], ◌∷◌, Option, Some, None, slice_get}
 use Rattle.std.specs.Str.{bytes_eq}
 use Rattle.cy_tree.specs.declared.set.NameKind.{NameKind}
 use Rattle.cy_tree.specs.declared.set.NameKind.TheVariants as kind

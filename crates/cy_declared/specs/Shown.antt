@@ -1,5 +1,5 @@
 -- The functions, declarations and entries that references show.
-use Rattle.std.specs.Prelude.{ℕ, List, map}
+use Rattle.std.specs.Prelude.{List, map}
 use Rattle.std.specs.Option.{option_copied}
 use Rattle.cy_mention.specs.FunctionsShown.{function_shown}
 use denote.Ref.{Bor}

@@ -1,7 +1,6 @@
 -- The types of C variables of modules and of the locals of functions (Cython documentation, "Language Basics", "Declaring C variables").
-use Rattle.std.specs.Prelude.{ℕ, if◌then◌else◌, List, [], ◌∷◌, ◌++◌, map, Option, Some, None, slice_get}
+use Rattle.std.specs.Prelude.{ℕ, List, [], ◌∷◌, ◌++◌, map, Option, Some, None, slice_get}
 use Rattle.std.specs.List.{flat_map}
-use Rattle.std.specs.Str.{bytes_eq}
 use Rattle.cy_tree.specs.declared.decl.Param.{Param}
 use Rattle.cy_tree.specs.declared.decl.Top.{Top}
 use Rattle.cy_tree.specs.declared.decl.Top.TheVariants as top

@@ -1,7 +1,6 @@
-use Rattle.std.proofs.Common.{List, Some, ap, sym, ◌∙◌}
+use Rattle.std.proofs.Common.{Some, ap, sym, ◌∙◌}
 use Rattle.std.specs.Map.Iter.{deref_pair}
 use Rattle.std.specs.Option.{option_map}
-use Rattle.cy_tree.specs.declared.set.NameKind.{NameKind}
 use Rattle.name_table.specs.Entries.{Entry}
 use Rattle.cy_declared.proofs.Texts.{text-at}
 use Rattle.cy_declared.proofs.local.text_at.Goals as goal
