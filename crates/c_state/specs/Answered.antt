@@ -60,9 +60,9 @@ abbrev pub gained : Gives → Obj → List Obj
 gained gives.New o = o ∷ []
 gained _ o = []
 
-abbrev pub lent : Gives → Obj → List Obj
-lent gives.Borrowed o = o ∷ []
-lent _ o = []
+abbrev pub lent_by : Gives → Obj → List Obj
+lent_by gives.Borrowed o = o ∷ []
+lent_by _ o = []
 
 abbrev pub thrown : Gives → Obj → ErrorChange
 thrown gives.Nothing o = error.Sets o
@@ -73,7 +73,7 @@ gains_of r (answers.Object o) = gained r.gives o
 gains_of r a = []
 
 abbrev pub lends_of : ApiRow → Answer → List Obj
-lends_of r (answers.Object o) = lent r.gives o
+lends_of r (answers.Object o) = lent_by r.gives o
 lends_of r a = []
 
 abbrev pub error_of : ApiRow → Answer → ErrorChange

@@ -1,6 +1,6 @@
 -- Statements on views: what a memory view tells, the parts of a `cyc_view`, elements (Python/C API manual, "Buffer Protocol";
 -- Cython documentation, "Typed Memoryviews").
-use Rattle.std.specs.Prelude.{ℕ, Bool, true, false, not, ◌&&◌, ◌||◌, List, [], ◌∷◌, Option, Some, None, ℤ, pos, nat_eq, length, is_none, slice_get, if◌then◌else◌}
+use Rattle.std.specs.Prelude.{ℕ, Bool, true, false, not, ◌&&◌, ◌||◌, List, [], ◌∷◌, Option, Some, None, ℤ, pos, nat_eq, length, is_none, slice_get, if◌then◌else◌, is_some}
 use Rattle.std.specs.List.{list_any}
 use Rattle.api_model.specs.declared.object.Obj.TheVariants as obj
 use Rattle.api_model.specs.declared.info.Info.{Info}
@@ -54,16 +54,17 @@ is_one_of letters _ = false
 abbrev pub format_fits : List ℕ → List ℕ → Bool
 format_fits format letters = is_one_of letters (without_at format)
 
--- A statement that asks a memory view: it is one, the lock is held, no exception is set, and the view is held. What it asks
--- is none where the operand is no memory view, or lacks it.
-abbrev pub told_by : {A : Type 0} → CState → Reading → Bool → Option A → (A → Planned) → Planned
-told_by c y goes asked more =
-    need (is_plain y && (goes && (not (is_set y.value) || not (is_none asked)))) fault.Stuck
+-- A statement that asks a memory view: it is one, where the answer goes is there, the lock is held, no exception is set, and
+-- the view is held. What it asks is none where the operand is no memory view, or lacks it.
+abbrev pub told_by : {A : Type 0} → CState → Reading → Bool → Bool → Option A → (A → Planned) → Planned
+told_by c y goes there asked more =
+    need (is_plain y && (goes && (not (is_set y.value) || is_some asked))) fault.Stuck
+    (need there fault.BadField
     (need (is_set y.value) fault.Undefined
     (need_strictly c c.shared.lock fault.Unlocked
     (need (is_none c.thread.error) fault.ErrorSet
     (need_strictly c (uses c y) fault.Unheld
-    (need_some asked fault.Stuck more)))))
+    (need_some asked fault.Stuck more))))))
 
 abbrev pub of_info : {A : Type 0} → (Info → Option A) → Option Info → Option A
 of_info pick None = None
@@ -75,19 +76,19 @@ goes_to c f x k = takes c f x k && may_store_to c f x
 -- `x = PyMemoryView_GET_BUFFER(y)->ndim;` and the like
 abbrev pub view_number : CState → Frame → Variable → Variable → ViewNumber → Reading → Planned
 view_number c f x object n y =
-    told_by c y (goes_to c f x size) (of_info (number_of n) (info_of c y.value))
+    told_by c y (goes_to c f x size) true (of_info (number_of n) (info_of c y.value))
     (λ z. give c f x (value.Number z) (lending (lends (object_variable object) y)))
 
 -- `x = PyMemoryView_GET_BUFFER(y)->suboffsets != NULL;`
 abbrev pub is_indirect : CState → Frame → Variable → Variable → Reading → Planned
 is_indirect c f x object y =
-    told_by c y (goes_to c f x int) (info_of c y.value)
+    told_by c y (goes_to c f x int) true (info_of c y.value)
     (λ i. give c f x (truth i.indirect) (lending (lends (object_variable object) y)))
 
 -- `x = cyc_fmt(PyMemoryView_GET_BUFFER(y)->format, "lqn");`
 abbrev pub has_format : CState → Frame → Variable → Variable → List ℕ → Reading → Planned
 has_format c f x object letters y =
-    told_by c y (goes_to c f x int) (info_of c y.value)
+    told_by c y (goes_to c f x int) true (info_of c y.value)
     (λ i. give c f x (truth (has_letter letters i)) (lending (lends (object_variable object) y)))
 
 -- `x = cyc_fmt("l", "lqn");`

@@ -34,7 +34,7 @@ use Rattle.c_state.specs.Linked.{function_named, function_at, table_named, table
 use Rattle.c_state.specs.Values.{same_kind, kind_of, int, size, converted, initial_value, is_object, all_set, passed, values_of, fits}
 use Rattle.c_state.specs.State.{Frame, CState, all_held, instance_of}
 use Rattle.c_state.specs.declared.change.Planned.{Planned}
-use Rattle.c_state.specs.declared.change.Planned.TheVariants.{Fault, Does}
+use Rattle.c_state.specs.declared.change.Planned.TheVariants.{Does}
 use Rattle.c_state.specs.declared.change.Change.{Change}
 use Rattle.c_state.specs.Planned.{need, need_some, need_strictly, nothing}
 use Rattle.c_state.specs.Reads.{receives, lends, lends_each, may_read, may_read_each}
@@ -132,14 +132,13 @@ abbrev pub suits_found : CState → Frame → Option Variable → List Reading �
 suits_found c f x vs None = false
 suits_found c f x vs (Some fn) = suits c f x vs fn.head
 
-abbrev pub call_found : List CFile → CState → Frame → Option Variable → List Argument → List Reading → List Obj → Option ItemPlace → Planned
-call_found files c f x ks vs os None = Fault fault.Stuck
-call_found files c f x ks vs os (Some p) =
+abbrev pub call_found : List CFile → CState → Frame → Option Variable → List Argument → List Reading → ItemPlace → Planned
+call_found files c f x ks vs p =
     need (suits_found c f x vs (function_at files p)) fault.Stuck
     (need (all_set vs) fault.Undefined
     (need_strictly c (may_read_each c ks vs) fault.Unlocked
     (need_strictly c (all_held c (passed vs)) fault.Unheld
-    (Does (calling p x vs (os ++ lends_each ks vs))))))
+    (Does (calling p x vs (lends_each ks vs))))))
 
 -- an initialisation function has no name of the profile
 abbrev pub callable : List CFile → ℕ → FunctionName → Option ItemPlace
@@ -148,7 +147,7 @@ callable files k name = function_named files k name
 
 -- `x = cyc_f_M_K(k, ..);`
 abbrev pub call : List CFile → CState → Frame → Option Variable → FunctionName → List Argument → List Reading → Planned
-call files c f x name ks vs = call_found files c f x ks vs [] (callable files f.file name)
+call files c f x name ks vs = need_some (callable files f.file name) fault.Stuck (call_found files c f x ks vs)
 
 -- ---- `x = ((const struct V *)((struct cyc_root *)y)->vt)->mJ(k, ..);`
 
@@ -205,20 +204,17 @@ named_by files k (Some name) = callable files k name
 abbrev pub slot_function : List CFile → ItemPlace → ℕ → Option ItemPlace
 slot_function files p j = named_by files p.file (slot_name (table_at files p) j)
 
-abbrev pub function_of : List CFile → Option ItemPlace → Option CFunction
-function_of files None = None
-function_of files (Some p) = function_at files p
-
-abbrev pub call_slot : List CFile → CState → Frame → Option Variable → Variable → Reading → List Argument → List Reading → Option Slot → Option ItemPlace → Planned
-call_slot files c f x object y ks vs s p =
-    need (has_type s (function_of files p)) fault.Stuck
+-- the function of the slot is entered
+abbrev pub call_slot : List CFile → CState → Option Variable → Variable → Reading → List Argument → List Reading → Option Slot → ItemPlace → Planned
+call_slot files c x object y ks vs s p =
+    need (has_type s (function_at files p)) fault.Stuck
     (need (all_set vs) fault.Undefined
     (need_strictly c (may_read c (object_variable object) y && may_read_each c ks vs) fault.Unlocked
-    (need_strictly c (uses c y) fault.Unheld
-    (call_found files c f x ks vs (lends (object_variable object) y) p))))
+    (need_strictly c (uses c y && all_held c (passed vs)) fault.Unheld
+    (Does (calling p x vs (lends (object_variable object) y ++ lends_each ks vs))))))
 
 abbrev pub call_method : List CFile → CState → Frame → Option Variable → Numbered → Variable → ℕ → Reading → List Argument → List Reading → Planned
 call_method files c f x class object j y ks vs =
     need (is_object y.kind && suits_slot c f x vs (slot_of files class j)) fault.Stuck
     (need_some (table_of files class (instance_of c y.value)) fault.BadField (λ t.
-    call_slot files c f x object y ks vs (slot_of files class j) (slot_function files t j)))
+    need_some (slot_function files t j) fault.Stuck (call_slot files c x object y ks vs (slot_of files class j))))

@@ -55,14 +55,14 @@ gain os c = with_ledger (gain_all os c.thread.ledger) c
 abbrev pub lose : List Obj → CState → CState
 lose os c = with_ledger (owning (lose_all (owned c.thread.ledger) os) c.thread.ledger) c
 
-abbrev pub set_error : ErrorChange → CState → CState
-set_error error.Stays c = c
-set_error error.Clears c = with_error None c
-set_error (error.Sets o) c = with_error (Some o) c
+abbrev pub error_changed : ErrorChange → CState → CState
+error_changed error.Stays c = c
+error_changed error.Clears c = with_error None c
+error_changed (error.Sets o) c = with_error (Some o) c
 
-abbrev pub set_lock : Option Bool → CState → CState
-set_lock None c = c
-set_lock (Some l) c = with_lock l c
+abbrev pub lock_changed : Option Bool → CState → CState
+lock_changed None c = c
+lock_changed (Some l) c = with_lock l c
 
 abbrev pub forget : List Remembered → List Remembered
 forget [] = []
@@ -99,9 +99,9 @@ initialise initialising.Stays c = c
 initialise (initialising.Begins k) c = with_shared c (set_begun c.shared (suc k))
 initialise initialising.Fails c = with_shared c (set_failed c.shared true)
 
-abbrev pub set_course : Option Course → CState → CState
-set_course None c = c
-set_course (Some course) c = with_course course c
+abbrev pub course_changed : Option Course → CState → CState
+course_changed None c = c
+course_changed (Some course) c = with_course course c
 
 abbrev pub jump_to : ℕ → Frame → Frame
 jump_to label f = record f { code = unwrap_or (after_label f.function.lines label) f.code }
@@ -113,21 +113,21 @@ jump (Some label) c = in_frame (jump_to label) c
 abbrev pub doing_it : Doing → Frame → Frame
 doing_it d f = record f { doing = d }
 
-abbrev pub set_doing : Option Doing → CState → CState
-set_doing None c = c
-set_doing (Some d) c = in_frame (doing_it d) c
+abbrev pub doing_changed : Option Doing → CState → CState
+doing_changed None c = c
+doing_changed (Some d) c = in_frame (doing_it d) c
 
 -- a variable of the newest frame, or a place of its file
-abbrev pub put_in : Variable → Value → Frame → Frame
-put_in x v f = record f { variables = put f.variables x v }
+abbrev pub put_in_frame : Variable → Value → Frame → Frame
+put_in_frame x v f = record f { variables = put f.variables x v }
 
-abbrev pub give_place : List Frame → Variable → Value → CState → CState
-give_place (f ∷ fs) (variable.Place p) v c = set_spot f.file p v c
-give_place fs x v c = in_frame (put_in x v) c
+abbrev pub put_value : List Frame → Variable → Value → CState → CState
+put_value (f ∷ fs) (variable.Place p) v c = set_spot f.file p v c
+put_value fs x v c = in_frame (put_in_frame x v) c
 
-abbrev pub give : Option (Variable × Value) → CState → CState
-give None c = c
-give (Some (x, v)) c = give_place c.thread.frames x v c
+abbrev pub give_value : Option (Variable × Value) → CState → CState
+give_value None c = c
+give_value (Some (x, v)) c = put_value c.thread.frames x v c
 
 abbrev pub enter_function : Entering → CState → Option CFunction → CState
 enter_function e c None = c
@@ -144,13 +144,13 @@ abbrev pub ledger_changed : Change → CState → CState
 ledger_changed d c = gain d.gets_back (lose d.loses (gain d.gains (lend d.lends (stop_loans d.ends_loans c))))
 
 abbrev pub thread_changed : Change → CState → CState
-thread_changed d c = remember d.remembered (set_lock d.lock (set_error d.error (ledger_changed d c)))
+thread_changed d c = remember d.remembered (lock_changed d.lock (error_changed d.error (ledger_changed d c)))
 
 abbrev pub shared_changed : List CFile → Change → CState → CState
-shared_changed files d c = set_course d.course (initialise d.initialising (change_space files d.space c))
+shared_changed files d c = course_changed d.course (initialise d.initialising (change_space files d.space c))
 
 abbrev pub frame_changed : List CFile → Change → CState → CState
-frame_changed files d c = enter_frame files d.enters (give d.gives (set_doing d.doing (jump d.jumps c)))
+frame_changed files d c = enter_frame files d.enters (give_value d.gives (doing_changed d.doing (jump d.jumps c)))
 
 -- the state after a change
 abbrev pub changed : List CFile → Change → CState → CState

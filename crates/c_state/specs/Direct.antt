@@ -36,13 +36,13 @@ use Rattle.c_state.specs.Assignments.{truth, error_objects}
 use Rattle.c_state.specs.Rows.{operands, suit_row, values_by, given_by, receives_row, clean_fault, may_run}
 
 -- the tests of every such row but those on its objects: its operands, where its result goes, the lock, the exception
-abbrev pub suits : CState → Frame → Option Variable → Api → ApiRow → List Reading → Bool
-suits c f x a r vs =
+abbrev pub suit_direct : CState → Frame → Option Variable → Api → ApiRow → List Reading → Bool
+suit_direct c f x a r vs =
     suit_row a vs && (receives_row c f x (given_by r.gives a) && result_may_store c f x)
 
 abbrev pub allowed : CState → Frame → Option Variable → Api → ApiRow → List Reading → Planned → Planned
 allowed c f x a r vs more =
-    need (suits c f x a r vs) fault.Stuck
+    need (suit_direct c f x a r vs) fault.Stuck
     (need (all_set vs) fault.Undefined
     (need_strictly c (c.shared.lock || not r.lock) fault.Unlocked
     (need (may_run c a r) (clean_fault r) more)))

@@ -71,6 +71,7 @@ stopping = record nothing { event = Some event.Stop; course = Some course.Stoppe
 abbrev pub reading : Element → ℤ → List Obj → Change
 reading e z os = record nothing { takes = true; event = Some (event.Get e.view e.at e.kind z); lends = os }
 
+-- without an entry the outside has made `stop` before
 abbrev pub got : CState → Frame → Variable → Element → List Obj → List Entry → Planned
 got c f x e os [] = Does stopping
 got c f x e os (s ∷ ss) = give c f x (value.Number (element_given e.kind s)) (reading e (element_given e.kind s) os)

@@ -1,7 +1,7 @@
 -- What calling entries enter: a name of the outside is resolved through the written module definition, method tables and type
 -- objects (Python/C API manual, "Module Objects", "Type Objects"). An entry fits where the module's or the class's own text
 -- gives what it names, its functions may be entered, and `self` is an instance of the class. The project's own.
-use Rattle.std.specs.Prelude.{ℕ, Bool, false, List, [], ◌∷◌, ◌++◌, Option, Some, None, pos, nat_eq, length, map, codes, if◌then◌else◌, true}
+use Rattle.std.specs.Prelude.{ℕ, Bool, false, List, [], ◌∷◌, ◌++◌, Option, Some, None, pos, nat_eq, map, codes, if◌then◌else◌, true}
 use Rattle.std.specs.Str.{bytes_eq}
 use Rattle.api_model.specs.declared.object.Allocation.{Allocation}
 use Rattle.api_model.specs.declared.object.Callee.{Callee}
@@ -35,6 +35,7 @@ use Rattle.c_state.specs.declared.change.Change.{Change}
 use Rattle.c_state.specs.Planned.{nothing}
 use Rattle.c_state.specs.State.{CState, spot, spots_at, instance_of}
 use Rattle.c_state.specs.Answered.{read_in}
+use Rattle.c_state.specs.Direct.{count_of}
 
 -- a call from outside: the function, the values of its parameters, what is lent to it, and its trace line
 pub record OutsideCall : Type 0 where
@@ -80,9 +81,6 @@ in_module {A = A} files c name more = by_file (module_file files name)
     by_file (Some k) = if is_ready c k then more k else None
 
 -- ---- functions
-
-abbrev pub count_of : List Obj → Value
-count_of os = value.Number (pos (length os))
 
 abbrev pub wrapper_call : Value → List Obj → List Obj → Option MethodRow → Option Wanted
 wrapper_call self args lent None = None

@@ -1,4 +1,4 @@
--- Scripts that name no instance after its death. The project's own.
+-- Scripts that name no instance after an entry that destroys it, whether or not that takes effect. The project's own.
 use Rattle.std.specs.Prelude.{ℕ, Bool, true, false, not, ◌&&◌, ◌||◌, nat_eq, IsTrue, List, [], ◌∷◌}
 use Rattle.api_model.specs.declared.object.Obj.{Obj}
 use Rattle.api_model.specs.declared.object.Obj.TheVariants as obj

@@ -28,7 +28,7 @@ abbrev pub is_tuple : Value → Bool
 is_tuple (value.Tuple os) = true
 is_tuple _ = false
 
--- whether these references, and no others that are needed, are owned
+-- whether the references that a value moves are among these
 abbrev pub owns_moved : List Obj → Value → Bool
 owns_moved own v = has_all own (objects_in v)
 

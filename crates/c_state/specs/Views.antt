@@ -33,7 +33,7 @@ use Rattle.c_state.specs.Planned.{need, need_some, need_strictly, lending}
 use Rattle.c_state.specs.declared.change.SpaceChange.TheVariants as space
 use Rattle.c_state.specs.Reads.{variable_reading, lends, may_read}
 use Rattle.c_state.specs.Stores.{give, is_tuple, may_store_to, may_write_to, owns_moved, field_kind, field_value}
-use Rattle.c_state.specs.Fields.{object_variable, uses, is_plain}
+use Rattle.c_state.specs.Fields.{object_variable, uses}
 use Rattle.c_state.specs.Buffers.{goes_to, told_by}
 
 -- ---- where a view is
@@ -143,11 +143,9 @@ buffer_of _ = None
 -- `v.buf = (char *)PyMemoryView_GET_BUFFER(y)->buf;`
 abbrev pub take_buffer : List CFile → CState → Frame → ViewPlace → Variable → Reading → Planned
 take_buffer files c f p object y =
-    need (is_plain y && (is_view_place files c f p && may_store_at c f p && (not (is_set y.value) || not (is_none (buffer_of y.value))))) fault.Stuck
-    (need (is_there c f p) fault.BadField
-    (told_by c y true (buffer_of y.value) (λ b.
-    (need_strictly c (is_held c f p) fault.Unheld
-    (set_view c f p (with_buffer b (view_at c f p)) (lending (lends (object_variable object) y ++ lends_at c f p)))))))
+    told_by c y (is_view_place files c f p && may_store_at c f p) (is_there c f p) (buffer_of y.value) (λ b.
+    need_strictly c (is_held c f p) fault.Unheld
+    (set_view c f p (with_buffer b (view_at c f p)) (lending (lends (object_variable object) y ++ lends_at c f p))))
 
 -- `v.buf = w.buf;`
 abbrev pub copy_buffer : List CFile → CState → Frame → ViewPlace → ViewPlace → Planned
