@@ -9,7 +9,7 @@ ghost use Rattle.c_state.specs.Values.{values_of};
 use c_state::{Api, Kind, Reading, Value};
 use c_value::{converted, copied_value, is_null};
 use cy_base::OutOfMemory;
-use cy_num::CNum;
+use cy_num::{CNum, wrap_is_congruent};
 use sqlite_items::Items;
 use std::alloc::Global;
 
@@ -206,7 +206,6 @@ pub fn converted_by(
 }
 
 /// The operands as they are where they meet the types of a function.
-#[tactic(auto, using(crate::proofs::InRange::in_range))]
 pub fn values_by(
     alloc: Global,
     api: Api,
@@ -215,6 +214,8 @@ pub fn values_by(
     ensures same { IfOk result (λ r. r ≡ values_by api readings.now) }
     ensures range { IfOk result (λ r. AreInRange api r) }
 {
+    wrap_is_congruent();
     let kinds = operands(alloc, api, readings)?;
-    converted_by(alloc, kinds.as_slice(), readings)
+    let values = converted_by(alloc, kinds.as_slice(), readings)?;
+    Ok(values)
 }
