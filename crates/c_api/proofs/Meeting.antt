@@ -52,5 +52,5 @@ one_met ks rs i r v m values new within at same is e h =
     let rest : List Value = converted_by (drop (i + 1) ks) (values_of (drop (i + 1) rs)) in
     let met_is : m ≡ met ks i r.value = is ∙ ap (met ks i) same in
     let step : converted_by (drop i ks) (values_of (drop i rs)) ≡ met ks i r.value ∷ rest =
-      ap (λ q. converted_by (drop i ks) (values_of q)) (at_head rs i r within at) ∙ converted_by-next ks i r.value (values_of (drop (i + 1) rs)) in
+    ap (λ q. converted_by (drop i ks) (values_of q)) (at_head rs i r within at) ∙ converted_by-next ks i r.value (values_of (drop (i + 1) rs)) in
     h ∙ (ap (λ t. values ++ t) (step ∙ ap (λ q. q ∷ rest) (sym met_is)) ∙ (join values m rest ∙ ap (λ t. t ++ rest) (sym e)))

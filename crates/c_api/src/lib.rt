@@ -12,11 +12,11 @@ mod texts;
 mod wanted;
 
 pub use answered::{answering, error_of, failure_of, gains_of, lends_of, made, nothing, value_of};
+pub use asked::{asking, clean_fault, error_by, given_by, making_of, number_given, sets_error};
 pub use copied::copied_op;
 pub use named::api_named;
-pub use wanted::{are_needed, converted_by, operands, values_by};
-pub use asked::{asking, clean_fault, error_by, given_by, making_of, number_given, sets_error};
 pub use operation::{op_of, type_wanted};
 pub use shapes::{One, Three, Two, one_object, three_objects, two_objects};
 pub use suited::{comparison_of, suit_row, suit_values};
 pub use texts::{c_string, class_named};
+pub use wanted::{are_needed, converted_by, operands, values_by};

@@ -109,12 +109,7 @@ pub fn one_object(alloc: Global, shape: One, values: &[Value]) -> Result<Option<
     }
 }
 
-fn with_second(
-    alloc: Global,
-    shape: Two,
-    a: &Obj,
-    y: &Value,
-) -> Result<Option<Op>, OutOfMemory>
+fn with_second(alloc: Global, shape: Two, a: &Obj, y: &Value) -> Result<Option<Op>, OutOfMemory>
     ensures { IfOk result (λ r. r ≡ with_object y.now (λ b. Some (of_two shape a.now b))) }
 {
     match y {

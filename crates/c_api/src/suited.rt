@@ -107,7 +107,9 @@ pub fn suit_row(alloc: Global, api: Api, readings: &[Reading]) -> Result<bool, O
 {
     let kinds = operands(alloc, api, readings)?;
     let values = values_by(alloc, api, readings)?;
-    Ok(fits(kinds.as_slice(), readings)
-        && are_needed(kinds.as_slice(), readings)
-        && suit_values(api, values.as_slice()))
+    Ok(
+        fits(kinds.as_slice(), readings)
+            && are_needed(kinds.as_slice(), readings)
+            && suit_values(api, values.as_slice()),
+    )
 }

@@ -14,7 +14,9 @@ use sqlite_items::Items;
 use std::alloc::Global;
 
 const INT: Kind = Kind::Number(CNum::I32);
+
 const SIZE: Kind = Kind::Number(CNum::I64);
+
 const ULONG: Kind = Kind::Number(CNum::U64);
 
 fn one(alloc: Global, first: Kind) -> Result<Items<Kind>, OutOfMemory>
@@ -33,12 +35,7 @@ fn two(alloc: Global, first: Kind, second: Kind) -> Result<Items<Kind>, OutOfMem
     Ok(kinds)
 }
 
-fn three(
-    alloc: Global,
-    first: Kind,
-    second: Kind,
-    third: Kind,
-) -> Result<Items<Kind>, OutOfMemory>
+fn three(alloc: Global, first: Kind, second: Kind, third: Kind) -> Result<Items<Kind>, OutOfMemory>
     ensures { IfOk result (λ r. r ≡ first ∷ second ∷ third ∷ []) }
 {
     let mut kinds = two(alloc, first, second)?;
@@ -80,11 +77,7 @@ fn packed(alloc: Global, readings: &[Reading]) -> Result<Items<Kind>, OutOfMemor
 }
 
 /// The types of the operands.
-pub fn operands(
-    alloc: Global,
-    api: Api,
-    readings: &[Reading],
-) -> Result<Items<Kind>, OutOfMemory>
+pub fn operands(alloc: Global, api: Api, readings: &[Reading]) -> Result<Items<Kind>, OutOfMemory>
     ensures { IfOk result (λ r. r ≡ operands api readings.now) }
 {
     match api {
@@ -206,11 +199,7 @@ pub fn converted_by(
 }
 
 /// The operands as they are where they meet the types of a function.
-pub fn values_by(
-    alloc: Global,
-    api: Api,
-    readings: &[Reading],
-) -> Result<Items<Value>, OutOfMemory>
+pub fn values_by(alloc: Global, api: Api, readings: &[Reading]) -> Result<Items<Value>, OutOfMemory>
     ensures same { IfOk result (λ r. r ≡ values_by api readings.now) }
     ensures range { IfOk result (λ r. AreInRange api r) }
 {

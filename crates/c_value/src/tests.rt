@@ -76,7 +76,10 @@ fn views_have_parts(rt: HostRuntime) -> Result<(), Fail> {
     let lengths = with_extent(none, 1, 7);
     let view = with_extents(view_of(Memory::Null), Extent::Length, lengths);
     assert!(rt; is_view_set(&view));
-    assert_eq!(rt; extent_at(extents_of(&view, Extent::Length), 1), Some(Some(7)));
+    assert_eq!(rt;
+        extent_at(extents_of(&view, Extent::Length), 1),
+        Some(Some(7))
+    );
     assert!(rt; is_null(&memory_value(rt.alloc(), &view.memory)?));
     assert!(rt; as_memory(rt.alloc(), &Value::Null)?.is_some());
     Ok(())
