@@ -8,6 +8,8 @@ mod named;
 mod operation;
 mod shapes;
 mod suited;
+#[cfg(test)]
+mod tests;
 mod texts;
 mod wanted;
 
