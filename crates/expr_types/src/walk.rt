@@ -205,7 +205,7 @@ impl<
         )
     }
 
-    #[tactic(auto, unfolding(crate::specs::Expressions::judged))]
+    #[tactic(auto, unfolding(crate::specs::Expressions::judged, crate::specs::Expressions::part_said))]
     pub(crate) fn level(
         &self,
         e: &Expr,
@@ -1260,7 +1260,7 @@ impl<
     }
 
     // An index: whether it breaks no rule, whether it is a slice, and the literal that it is.
-    #[tactic(auto, unfolding(crate::specs::Expressions::indexed))]
+    #[tactic(auto, unfolding(crate::specs::Expressions::indexed, crate::specs::Expressions::judged))]
     fn judge_index(
         &self,
         one: Option<Ty>,
@@ -1474,7 +1474,7 @@ impl<
     }
 
     // A part behind what stands before it.
-    #[tactic(auto, unfolding(crate::specs::Expressions::part_said))]
+    #[tactic(auto, unfolding(crate::specs::Expressions::part_said, crate::specs::Expressions::judged, crate::specs::Expressions::indexed))]
     fn judge_part(
         &self,
         part: &Part,

@@ -19,12 +19,18 @@ use first_breach::note;
 use sqlite_items::at;
 use std::alloc::Global;
 
+fn note_next(least: Option<Refusal>, next: &Refusal) -> Option<Refusal>
+    ensures { IsLeastWith least (next.now ∷ []) result }
+{
+    note(least, *next)
+}
+
 fn note_all(found: &[Refusal], least: Option<Refusal>) -> Option<Refusal>
     ensures { IsLeastWith least found.now result }
 {
     let mut least = least;
     for next in found {
-        least = note(least, *next);
+        least = note_next(least, next);
     }
     least
 }

@@ -12,7 +12,7 @@ pub loop-next-preserved : goal.loop-next-preserved
 loop-next-preserved c = λ last it.
     c.loop-next.invariant last
     (next (λ (rs : List Refusal). IsLeastWith c.loop-next.least rs last) c.args.found.now c.loop-next.next-index c.next-item.result c.loop-next-test.true c.next-item.is
-    (with-both _ _ _ (c.next-item.result ∷ []) _ (record { each = c.note-least.ensures }) it))
+    (with-both _ _ _ (c.next-item.result ∷ []) _ c.note_next-least.ensures it))
 
 pub returns : goal.returns
 returns c =
