@@ -1,12 +1,14 @@
 //! One walk over an expression.
-ghost use Rattle.std.specs.Prelude.{◌≡◌, ◌++◌, ◌<◌, ◌≤◌, [], ◌∷◌, Some, None, true, false, IfOk, OnOk, length, slice_set};
+ghost use Rattle.std.specs.Prelude.{List, ◌≡◌, ◌++◌, ◌<◌, ◌≤◌, [], ◌∷◌, Some, None, true, false, IfOk, OnOk, length, slice_set};
 ghost use Rattle.std.specs.Option.{option_copied, option_map};
+ghost use Rattle.cy_tree.specs.declared.set.NodeInfo.{NodeInfo};
+ghost use Rattle.expr_types.specs.declared.said.Said.{Said};
 ghost use Rattle.expr_types.specs.Casts.{casting};
 ghost use Rattle.expr_types.specs.Expressions.{choice, condition, display, indexed, judged, maybe_value, name_leaf, object_item, pair_pieces, part_said, value_of, values_of};
 ghost use Rattle.expr_types.specs.Joined.{all_breaches, arms, choosing, conditional, nodes_taking, one_type, taking, tolds};
 ghost use Rattle.expr_types.specs.Operators.{comparing, first_right, how_beside, operand, operand_broken, operating, row_broken, row_nodes, row_said, unary_of};
 ghost use Rattle.expr_types.specs.Parts.{atom_said, attribute, c_call, call, element_or_view, first_is_call, function_call, index_pieces, is_below, is_dimension, item, literal_of, object_call, object_index, one_index, parts_broken, parts_nodes, parts_prefix, postfix_of, prefix_broken, prefix_of, prefix_told, right, shape_index, slice, slice_end, slices, stopped, view_index, wanted_index, wrong};
-ghost use Rattle.expr_types.specs.Said.{all_fine, all_meeting, alone, blank, breaks, broken_in, if_fine, judged_as, meeting, misused, node_of, nodes_in, of_pieces, plain, used, wanting, written};
+ghost use Rattle.expr_types.specs.Said.{Judged, all_fine, all_meeting, alone, blank, breaks, broken_in, if_fine, judged_as, meeting, misused, node_of, nodes_in, of_pieces, plain, used, wanting, written};
 ghost use Rattle.expr_types.specs.Judges.{Judges};
 ghost use Rattle.expr_types.specs.Walk.{all_indexed, all_judged, alone_pieces, argument_pieces, bits_row, condition_pieces, entry_pieces, first_or, all_parts, item_pieces, retaken, seens_from, shift_row, sum_row, term_row, unfilled};
 
@@ -105,6 +107,14 @@ fn retake(infos: &mut Vec<NodeInfo>, seens: &[Seen], given: Said)
     for seen in seens {
         fill(infos, seen.place, taking(given, seen.told));
     }
+}
+
+// Fills the nodes of operands of `and` and `or`, when their one type is known.
+fn take_type(infos: &mut Vec<NodeInfo>, seens: &[Seen], given: Said)
+    ensures { (us : List Judged) (old : List NodeInfo) (known : Said) → infos.old.items ≡ old ++ unfilled us → seens.now ≡ seens_from old us
+        → given ≡ known → infos.new.items ≡ old ++ nodes_taking known us }
+{
+    retake(infos, seens, given);
 }
 
 fn blank() -> NodeInfo
@@ -605,7 +615,7 @@ impl<
         let found = self.judge_choices(xs, infos, broken)?;
         let tolds = found.tolds.as_slice();
         note_choosing(self.around, self.file, at, tolds, broken)?;
-        retake(infos, found.seens.as_slice(), one_type(tolds));
+        take_type(infos, found.seens.as_slice(), one_type(tolds));
         Ok(plain(at, choosing_said(self.around, tolds)))
     }
 
