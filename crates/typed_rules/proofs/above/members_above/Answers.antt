@@ -35,7 +35,7 @@ loop-step-preserved c =
     ∙ ap (λ (k : ℕ). members ++ members_among known set name (found_from k set (Some above))) one
     ∙ sym (append_assoc members (maybe_list (own_member known set above name)) rest)
     ∙ ap (λ (ms : List OwnMember). ms ++ rest) (sym c.in_ok-found-in-Some.ensures.noted)
-    ∙ ap (λ (o : Option ClassId). c.note_own.new.members ++ members_among known set name (found_from m set o)) (sym c.in_ok-found-in-Some.ensures.base)
+    ∙ ap (λ (o : Option ClassId). c.note_own.new.out ++ members_among known set name (found_from m set o)) (sym c.in_ok-found-in-Some.ensures.base)
 
 pub returns : goal.returns
 returns c =
