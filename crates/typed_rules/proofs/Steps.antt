@@ -1,5 +1,5 @@
 -- One step from a class to its base.
-use Rattle.std.proofs.Common.{◌≡◌, ℕ, zero, suc, false, List, [], Option, Some, None, refl}
+use Rattle.std.proofs.Common.{◌≡◌, ℕ, zero, suc, false, List, [], Some, None, refl}
 use Rattle.cy_scope.specs.declared.known.Known.{Known}
 use Rattle.cy_tree.specs.declared.set.NamedSet.{NamedSet}
 use Rattle.cy_tree.specs.declared.ty.ClassId.{ClassId}

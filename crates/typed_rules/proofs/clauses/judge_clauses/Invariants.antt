@@ -1,8 +1,8 @@
-use Rattle.std.proofs.Common.{Option, drop, false}
+use Rattle.std.proofs.Common.{Option, drop}
 use Rattle.std.specs.List.{flat_map}
 use Rattle.cy_base.specs.declared.place.Refusal.{Refusal}
 use Rattle.first_breach.specs.First.{IsLeastWith}
-use Rattle.declaration_rules.specs.DeclarationsShown.{declaration_shown, declarations_shown}
+use Rattle.declaration_rules.specs.DeclarationsShown.{declarations_shown}
 use Rattle.typed_rules.specs.Rules.{clause_breaches}
 use Rattle.typed_rules.proofs.clauses.judge_clauses.Given as goal
 

@@ -1,4 +1,4 @@
-use Rattle.std.proofs.Common.{Option, drop, false}
+use Rattle.std.proofs.Common.{Option, drop}
 use Rattle.std.specs.List.{flat_map}
 use Rattle.cy_base.specs.declared.place.Refusal.{Refusal}
 use Rattle.first_breach.specs.First.{IsLeastWith}

@@ -1,4 +1,4 @@
-use Rattle.std.proofs.Common.{◌+◌, drop, false}
+use Rattle.std.proofs.Common.{◌+◌, drop}
 use Rattle.std.specs.List.{flat_map}
 use Rattle.first_breach.specs.First.{IsLeastWith}
 use Rattle.first_breach.proofs.Joins.{with-both, with-none}
