@@ -9,6 +9,8 @@ mod operators;
 mod parts;
 mod place;
 mod said;
+#[cfg(test)]
+mod tests;
 mod walk;
 mod whole;
 
