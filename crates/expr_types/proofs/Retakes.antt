@@ -23,8 +23,8 @@ retaken_behind given infos old (u ∷ us) same =
     ∙ sym (length-append old (node_of u None)))
     ∙ append_assoc infos (node_taking given u) (nodes_taking given us)
 
-pub retaken-all : {old mid new : List NodeInfo} {taken : Said} {seens : List Seen} (given : Said) (us : List Judged) → new ≡ retaken taken mid seens → mid ≡ old ++ unfilled us → taken ≡ given → seens ≡ seens_from old us → new ≡ old ++ nodes_taking given us
-retaken-all {old} {mid} {new} {taken} {seens} given us is was same those =
+pub retaken-all : (old mid new : List NodeInfo) (taken : Said) (seens : List Seen) (given : Said) (us : List Judged) → new ≡ retaken taken mid seens → mid ≡ old ++ unfilled us → taken ≡ given → seens ≡ seens_from old us → new ≡ old ++ nodes_taking given us
+retaken-all old mid new taken seens given us is was same those =
     is
     ∙ ap (λ (xs : List NodeInfo). retaken taken xs seens) was
     ∙ ap (λ (s : Said). retaken s (old ++ unfilled us) seens) same
