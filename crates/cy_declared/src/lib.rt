@@ -11,8 +11,6 @@ mod owned;
 mod signature;
 mod table;
 mod tables;
-#[cfg(test)]
-mod tests;
 mod types;
 mod variable;
 
