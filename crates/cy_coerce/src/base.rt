@@ -15,8 +15,8 @@ fn class_of(set: &NamedSet, id: ClassId) -> Option<&Class>
     file.tree.class(id.index as usize)
 }
 
-// What a name means among those that a module declares.
-fn kind_of(set: &NamedSet, number: u32, name: &Ident) -> Option<NameKind>
+/// What a name means among those that a module declares.
+pub fn kind_of(set: &NamedSet, number: u32, name: &Ident) -> Option<NameKind>
     ensures { result ≡ kind_of set.now number name.now }
 {
     let scope = at(set.scopes.as_slice(), number as usize)?;
@@ -46,7 +46,8 @@ fn kind_of_base(set: &NamedSet, number: u32, base: Option<&ClassBase>) -> Option
     }
 }
 
-fn as_class_id(kind: Option<NameKind>) -> Option<ClassId>
+/// The class that is meant; None where something else is.
+pub fn as_class_id(kind: Option<NameKind>) -> Option<ClassId>
     ensures { result ≡ as_class_id kind }
 {
     match kind {
@@ -55,12 +56,26 @@ fn as_class_id(kind: Option<NameKind>) -> Option<ClassId>
     }
 }
 
-// One step from a class to its base.
-fn base_of(set: &NamedSet, id: ClassId) -> Option<ClassId>
+// The class that a base's name means in a module; None where it means none.
+fn base_named(set: &NamedSet, number: u32, base: Option<&ClassBase>) -> Option<ClassId>
+    ensures { result ≡ as_class_id (kind_of_base set.now number (option_copied base.entry)) }
+{
+    as_class_id(kind_of_base(set, number, base))
+}
+
+/// The class that a name means among those that a module declares; None where it means none.
+pub fn class_declared(set: &NamedSet, number: u32, name: &Ident) -> Option<ClassId>
+    ensures { result ≡ as_class_id (kind_of set.now number name.now) }
+{
+    as_class_id(kind_of(set, number, name))
+}
+
+/// One step from a class to its base (Cython documentation, "Extension Types", Subclassing).
+pub fn base_of(set: &NamedSet, id: ClassId) -> Option<ClassId>
     ensures { result ≡ base_of set.now id }
 {
     let class = class_of(set, id)?;
-    as_class_id(kind_of_base(set, id.module, class.base.as_ref()))
+    base_named(set, id.module, class.base.as_ref())
 }
 
 /// Whether a class is a base class of another: 1 to 31 steps lead to it (Cython documentation, "Extension Types").

@@ -13,8 +13,10 @@ ghost use Rattle.cy_tree.specs.Coercions.{coercion_of, is_wider, view_eq};
 
 use crate::base::is_base;
 use crate::same::{is_signed, same_class, same_elements, same_number, same_view};
+pub use base::{as_class_id, base_of, class_declared, kind_of};
 use cy_num::CNum;
 use cy_tree::{ClassId, Coercion, NamedSet, Ty, ViewTy};
+pub use same::same_type;
 
 fn to_number(from: Ty, to: CNum) -> Option<Coercion>
     ensures { (set : NamedSet) → result ≡ coercion_of set from (Ty.Num to) }

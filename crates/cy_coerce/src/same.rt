@@ -2,10 +2,10 @@
 ghost use Rattle.std.specs.Prelude.{◌≡◌};
 ghost use Rattle.cy_num.specs.Types.{is_signed};
 ghost use Rattle.cy_tree.specs.Bases.{class_eq};
-ghost use Rattle.cy_tree.specs.Coercions.{number_eq, same_elements, view_eq};
+ghost use Rattle.cy_tree.specs.Coercions.{number_eq, same_elements, type_eq, view_eq};
 
 use cy_num::CNum;
-use cy_tree::{ClassId, ViewTy};
+use cy_tree::{ClassId, Ty, ViewTy};
 
 pub fn is_signed(kind: CNum) -> bool
     ensures { result ≡ is_signed kind }
@@ -44,4 +44,19 @@ pub fn same_view(a: ViewTy, b: ViewTy) -> bool
     ensures { result ≡ view_eq a b }
 {
     same_elements(a, b) && a.constant == b.constant && a.contiguous == b.contiguous
+}
+
+/// Whether two types are the same.
+pub fn same_type(a: Ty, b: Ty) -> bool
+    ensures { result ≡ type_eq a b }
+{
+    match (a, b) {
+        (Ty::Num(t), Ty::Num(u)) => same_number(t, u),
+        (Ty::Bint, Ty::Bint) => true,
+        (Ty::Object, Ty::Object) => true,
+        (Ty::Class(c), Ty::Class(d)) => same_class(c, d),
+        (Ty::View(v), Ty::View(w)) => same_view(v, w),
+        (Ty::Void, Ty::Void) => true,
+        _ => false,
+    }
 }

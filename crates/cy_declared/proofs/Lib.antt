@@ -1,0 +1,4 @@
+mod Agree
+mod Nearest
+mod Numbered
+mod Texts

@@ -1,0 +1,11 @@
+use Rattle.std.proofs.Common.{Option, drop}
+use Rattle.std.specs.List.{flat_map}
+use Rattle.cy_base.specs.declared.place.Refusal.{Refusal}
+use Rattle.first_breach.specs.First.{IsLeastWith}
+use Rattle.declaration_rules.specs.DeclarationsShown.{declarations_shown}
+use Rattle.declaration_rules.specs.Rules.{special_breaches}
+use Rattle.declaration_rules.proofs.special.judge_special.Given as goal
+
+abbrev pub invariant-loop-declaration : goal.invariant-loop-declaration
+invariant-loop-declaration l =
+    (last : Option Refusal) → IsLeastWith l.least (flat_map (special_breaches l.file) (declarations_shown (drop l.declaration-index l.declarations))) last → IsLeastWith l.initial.least (flat_map (special_breaches l.file) (declarations_shown (l.declarations))) last

@@ -1,0 +1,4 @@
+pub mod Shown
+pub mod Trees
+pub mod Uses
+pub mod Words
