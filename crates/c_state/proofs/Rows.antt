@@ -1,8 +1,8 @@
 -- Runs of small programs, computed: their traces, and the faults of wrong C.
 use Rattle.c_state.specs.State.{linked, with_lock}
-use Rattle.c_state.specs.declared.step.Step.{Step}
-use Rattle.c_state.specs.declared.step.Step.TheVariants as step
-use Rattle.c_state.specs.declared.step.FaultKind.TheVariants as fault
+use Rattle.c_value.specs.declared.step.Step.{Step}
+use Rattle.c_value.specs.declared.step.Step.TheVariants as step
+use Rattle.c_value.specs.declared.step.FaultKind.TheVariants as fault
 use Rattle.std.proofs.Common.{◌≡◌, ℕ, true, List, [], ◌∷◌, ◌++◌, Option, Some, None, refl, false}
 use Rattle.std.specs.Prelude.{codes, pos}
 use Prim.Native.String.{String}

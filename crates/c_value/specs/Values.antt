@@ -1,7 +1,7 @@
 -- Types and values: what may stand where, what a place starts with, the objects in a value. The project's own, after ISO/IEC
 -- 9899:2011 (6.3, 6.5.16.1, 6.7.9).
-use Rattle.c_state.specs.declared.value.Buffer.{Buffer}
-use Rattle.std.specs.Prelude.{ℕ, zero, suc, Bool, true, false, ◌&&◌, ◌||◌, List, [], ◌∷◌, ◌++◌, Option, Some, None, ℤ, pos, negsuc, nat_eq, is_some}
+use Rattle.c_value.specs.declared.value.Buffer.{Buffer}
+use Rattle.std.specs.Prelude.{ℕ, zero, suc, Bool, true, false, ◌&&◌, ◌||◌, List, [], ◌∷◌, ◌++◌, Option, Some, None, ℤ, pos, negsuc, nat_eq, is_some, if◌then◌else◌}
 use Rattle.cy_num.specs.declared.types.CNum.{CNum}
 use Rattle.cy_num.specs.declared.types.CNum.TheVariants as number
 use Rattle.cy_num.specs.Wrapping.{wrap}
@@ -14,18 +14,18 @@ use Rattle.c_tree.specs.declared.statement.Extent.{Extent}
 use Rattle.c_tree.specs.declared.statement.Extent.TheVariants as extent
 use Rattle.c_tree.specs.declared.item.InitialValue.{InitialValue}
 use Rattle.c_tree.specs.declared.item.InitialValue.TheVariants as initial
-use Rattle.c_state.specs.declared.kind.Kind.{Kind}
-use Rattle.c_state.specs.declared.kind.Kind.TheVariants as kind
-use Rattle.c_state.specs.declared.value.Memory.{Memory}
-use Rattle.c_state.specs.declared.value.Memory.TheVariants as memory
-use Rattle.c_state.specs.declared.value.Buffer.TheVariants as buffer
-use Rattle.c_state.specs.declared.value.Extents.{Extents}
-use Rattle.c_state.specs.declared.value.ViewValue.{ViewValue}
-use Rattle.c_state.specs.declared.value.Value.{Value}
-use Rattle.c_state.specs.declared.value.Value.TheVariants as value
-use Rattle.c_state.specs.declared.value.Reading.{Reading}
+use Rattle.c_value.specs.declared.kind.Kind.{Kind}
+use Rattle.c_value.specs.declared.kind.Kind.TheVariants as kind
+use Rattle.c_value.specs.declared.value.Memory.{Memory}
+use Rattle.c_value.specs.declared.value.Memory.TheVariants as memory
+use Rattle.c_value.specs.declared.value.Buffer.TheVariants as buffer
+use Rattle.c_value.specs.declared.value.Extents.{Extents}
+use Rattle.c_value.specs.declared.value.ViewValue.{ViewValue}
+use Rattle.c_value.specs.declared.value.Value.{Value}
+use Rattle.c_value.specs.declared.value.Value.TheVariants as value
+use Rattle.c_value.specs.declared.value.Reading.{Reading}
 use Rattle.api_model.specs.Objects.{same_obj}
-use Rattle.c_state.specs.Names.{same_item}
+use Rattle.c_value.specs.Names.{same_item}
 
 -- ---- types
 
@@ -283,3 +283,10 @@ abbrev pub fits : List Kind → List Reading → Bool
 fits [] [] = true
 fits (k ∷ ks) (v ∷ vs) = converts v.kind k && fits ks vs
 fits _ _ = false
+
+-- ---- texts
+
+-- what a text is to C: its bytes up to the first 0 (ISO/IEC 9899:2011 7.1.1)
+abbrev pub c_string : List ℕ → List ℕ
+c_string [] = []
+c_string (b ∷ bs) = if nat_eq b 0 then [] else b ∷ c_string bs

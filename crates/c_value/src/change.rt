@@ -1,5 +1,5 @@
-use crate::{Course, Doing, Entered, FaultKind, ItemPlace, Value};
-use api_model::{Allocation, Event, Info, Obj};
+use crate::{Course, Entered, FaultKind, ItemPlace, Making, Value, ViewInfo};
+use api_model::{Allocation, ApiRow, Event, Obj, Op};
 use c_tree::{Numbered, Variable};
 use sqlite_items::Items;
 
@@ -44,15 +44,20 @@ pub enum SpaceChange {
     Table(u32, Numbered),
     Freed(u32),
     Made(ItemPlace, Allocation),
-    Viewed(Info),
+    Viewed(ViewInfo),
 }
 
-/// What becomes of the initialisations: that of a file begins, or one has failed.
-#[derive(Clone, Copy, Debug, PartialEq, Eq)]
-pub enum Initialising {
+/// Where the run goes on: as before, behind a label, in a function that the newest frame calls, in one that the outside
+/// enters, in the frame that waited for the newest one, or in the newest one, which asked.
+#[derive(Drop)]
+pub enum Flow {
     Stays,
-    Begins(u32),
-    Fails,
+    Jumps(u32),
+    /// where the result goes, and the function
+    Calls(Option<Variable>, Entering),
+    Enters(Entering),
+    Resumes,
+    Runs,
 }
 
 /// What a move changes, in the order of the fields; what isn't told here stays. The newest frame is the one that is there
@@ -63,8 +68,7 @@ pub struct Change {
     pub takes: bool,
     /// the trace line
     pub event: Option<Event>,
-    /// whether the newest frame is left
-    pub leaves: bool,
+    pub flow: Flow,
     pub ends_loans: bool,
     pub lends: Items<Obj>,
     /// references that the newest frame gets, gives away, and gets out of a place or a field
@@ -75,14 +79,32 @@ pub struct Change {
     pub lock: Option<bool>,
     pub remembered: Remembering,
     pub space: SpaceChange,
-    pub initialising: Initialising,
+    /// the file whose initialisation begins
+    pub begins: Option<u32>,
     pub course: Option<Course>,
-    /// the label behind which the newest frame goes on
-    pub jumps: Option<u32>,
-    pub doing: Option<Doing>,
     /// what a variable of the newest frame, or a place of its file, gets
     pub gives: Option<(Variable, Value)>,
-    pub enters: Option<Entering>,
+}
+
+/// An operation that the newest frame asks: all loans end.
+#[derive(Drop)]
+pub struct Asking {
+    pub op: Op,
+    pub row: ApiRow,
+    pub making: Making,
+    pub target: Option<Variable>,
+    /// whether the exception that is set is cleared
+    pub clears: bool,
+}
+
+/// A frame that C didn't call is left: all loans end.
+#[derive(Drop)]
+pub struct Handing {
+    pub event: Option<Event>,
+    /// whether the exception that is set is handed over
+    pub clears: bool,
+    /// whether the initialisation of a module has failed
+    pub fails: bool,
 }
 
 /// What a move comes to.
@@ -90,4 +112,6 @@ pub struct Change {
 pub enum Planned {
     Fault(FaultKind),
     Does(Change),
+    Asks(Asking),
+    Hands(Handing),
 }

@@ -13,7 +13,7 @@ use Rattle.c_tree.specs.declared.name.TableName.{TableName}
 use Rattle.c_tree.specs.declared.name.TableName.TheVariants as table
 use Rattle.c_tree.specs.declared.name.FunctionName.{FunctionName}
 use Rattle.c_tree.specs.declared.name.FunctionName.TheVariants as function
-use Rattle.c_state.specs.declared.value.ItemPlace.{ItemPlace}
+use Rattle.c_value.specs.declared.value.ItemPlace.{ItemPlace}
 
 abbrev pub same_number : Numbered → Numbered → Bool
 same_number a b = nat_eq a.module b.module && nat_eq a.index b.index
