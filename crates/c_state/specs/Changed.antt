@@ -27,7 +27,7 @@ use Rattle.c_value.specs.declared.change.Handing.{Handing}
 use Rattle.c_value.specs.declared.frame.Doing.TheVariants as doing
 use Rattle.c_state.specs.Linked.{function_at}
 use Rattle.c_ledger.specs.Ledger.{entered, left, without_loans}
-use Rattle.c_state.specs.Ledger.{gain_all, lose_all, owned, owning, loan_all}
+use Rattle.c_ledger.specs.OfNewest.{gain_all, lose_all, owned, owning, loan_all}
 use Rattle.c_state.specs.State.{with_shared, with_frames, with_ledger, with_error, with_remembered, with_ensured, with_taken, with_course, with_lock, with_instances, with_views, set_begun, set_failed, in_frame, set_spot, set_instance, stored_in, new_instance}
 use Rattle.c_state.specs.Calls.{frame_of}
 use Rattle.c_state.specs.declared.state.Frame.{Frame}

@@ -16,7 +16,7 @@ use Rattle.c_value.specs.declared.space.Part.{Part}
 use Rattle.c_value.specs.declared.space.Instance.{Instance}
 use Rattle.c_value.specs.declared.frame.Entered.TheVariants as entered
 use Rattle.c_state.specs.Linked.{function_named, type_at, base_of, item_count}
-use Rattle.c_state.specs.Ledger.{in_use}
+use Rattle.c_ledger.specs.OfNewest.{in_use}
 use Rattle.c_value.specs.declared.change.Change.{Change}
 use Rattle.c_value.specs.declared.change.Flow.TheVariants as flow
 use Rattle.c_value.specs.declared.value.ItemPlace.{ItemPlace}

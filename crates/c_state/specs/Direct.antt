@@ -24,7 +24,7 @@ use Rattle.c_value.specs.declared.space.Instance.{Instance}
 use Rattle.c_state.specs.Linked.{is_below, item_count}
 use Rattle.c_value.specs.Values.{is_set, is_object, all_set, fits}
 use Rattle.c_ledger.specs.Ledger.{has}
-use Rattle.c_state.specs.Ledger.{owned}
+use Rattle.c_ledger.specs.OfNewest.{owned}
 use Rattle.c_state.specs.State.{held, instance_of}
 use Rattle.c_value.specs.declared.change.Planned.{Planned}
 use Rattle.c_value.specs.declared.change.Planned.TheVariants.{Fault, Does}

@@ -22,7 +22,7 @@ use Rattle.c_value.specs.declared.value.Reading.{Reading}
 use Rattle.c_value.specs.declared.space.Course.TheVariants as course
 use Rattle.c_value.specs.Values.{kind_of, is_number, is_view, is_set, same_int}
 use Rattle.c_ledger.specs.Ledger.{has}
-use Rattle.c_state.specs.Ledger.{owned, lent}
+use Rattle.c_ledger.specs.OfNewest.{owned, lent}
 use Rattle.c_value.specs.declared.change.Planned.{Planned}
 use Rattle.c_value.specs.declared.change.Planned.TheVariants.{Does}
 use Rattle.c_value.specs.declared.change.Change.{Change}

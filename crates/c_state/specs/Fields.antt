@@ -20,7 +20,7 @@ use Rattle.c_value.specs.declared.value.Reading.{Reading}
 use Rattle.c_value.specs.declared.space.Part.{Part}
 use Rattle.c_value.specs.declared.space.Instance.{Instance}
 use Rattle.c_value.specs.declared.change.SpaceChange.TheVariants as space
-use Rattle.c_state.specs.Ledger.{owned}
+use Rattle.c_ledger.specs.OfNewest.{owned}
 use Rattle.c_value.specs.Values.{converts, int, is_object, is_set, is_null, has_objects, objects_in}
 use Rattle.c_state.specs.State.{all_held, instance_of}
 use Rattle.c_value.specs.declared.change.Planned.{Planned}

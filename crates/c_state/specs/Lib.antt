@@ -10,7 +10,6 @@ pub mod Elements
 pub mod Entering
 pub mod Fields
 pub mod Honest
-pub mod Ledger
 pub mod Linked
 pub mod Machine
 pub mod Outside

@@ -22,7 +22,7 @@ use Rattle.c_value.specs.declared.frame.Entered.TheVariants as entered
 use Rattle.c_value.specs.declared.frame.Doing.{Doing}
 use Rattle.c_value.specs.declared.frame.Doing.TheVariants as doing
 use Rattle.c_value.specs.Values.{converts, converted, is_set, object_of}
-use Rattle.c_state.specs.Ledger.{owned, owned_below, lent}
+use Rattle.c_ledger.specs.OfNewest.{owned, owned_below, lent}
 use Rattle.c_state.specs.State.{instance_at, spots_at}
 use Rattle.c_value.specs.declared.change.Planned.{Planned}
 use Rattle.c_value.specs.declared.change.Planned.TheVariants.{Fault, Does, Hands}

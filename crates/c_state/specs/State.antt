@@ -38,7 +38,7 @@ use Rattle.c_state.specs.declared.state.Thread.{Thread}
 use Rattle.c_frame.specs.Cells.{put}
 use Rattle.c_frame.specs.Spots.{put_spot}
 use Rattle.c_ledger.specs.Ledger.{Accounts, empty}
-use Rattle.c_state.specs.Ledger.{owned, lent}
+use Rattle.c_ledger.specs.OfNewest.{owned, lent}
 
 -- ---- changes of one part
 

@@ -24,7 +24,7 @@ use Rattle.c_value.specs.declared.value.Value.{Value}
 use Rattle.c_value.specs.declared.value.Value.TheVariants as value
 use Rattle.c_value.specs.declared.value.Reading.{Reading}
 use Rattle.c_value.specs.Values.{is_buffer_set, is_memory_set, size, is_number, is_object, is_view, is_set, unset_view, objects_in, memory_value, as_memory, extents_at, with_extent, extents_of, with_extents}
-use Rattle.c_state.specs.Ledger.{owned}
+use Rattle.c_ledger.specs.OfNewest.{owned}
 use Rattle.c_value.specs.declared.change.Planned.{Planned}
 use Rattle.c_value.specs.declared.change.Planned.TheVariants.{Fault, Does}
 use Rattle.c_value.specs.declared.change.Change.{Change}

@@ -1,4 +1,4 @@
--- The ledger at the newest frame, over c_ledger's. The project's own, after the Python/C API manual, "Reference Counts".
+-- The ledger at its newest frame. The project's own, after the Python/C API manual, "Reference Counts".
 use Rattle.std.specs.Prelude.{Bool, true, ◌&&◌, ◌||◌, List, [], ◌∷◌, ◌++◌, ◌-◌}
 use Rattle.std.specs.List.{list_any}
 use Rattle.api_model.specs.declared.object.Obj.{Obj}
