@@ -2,6 +2,8 @@
 //! meets, the moves of the outside, and steps.
 #![tactic(auto)]
 
+mod planned;
 mod state;
 
+pub use planned::{lending, nothing};
 pub use state::{Frame, Shared, State, Thread};
