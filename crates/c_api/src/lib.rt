@@ -10,7 +10,6 @@ mod shapes;
 mod suited;
 #[cfg(test)]
 mod tests;
-mod texts;
 mod wanted;
 
 pub use answered::{answering, error_of, failure_of, gains_of, lends_of, made, value_of};
@@ -20,5 +19,4 @@ pub use named::api_named;
 pub use operation::{op_of, type_wanted};
 pub use shapes::{One, Three, Two, one_object, three_objects, two_objects};
 pub use suited::{comparison_of, suit_row, suit_values};
-pub use texts::class_named;
-pub use wanted::{are_needed, converted_by, is_tuple, operands, values_by};
+pub use wanted::{are_needed, converted_by, operands, values_by};

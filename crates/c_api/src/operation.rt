@@ -13,8 +13,8 @@ ghost use Rattle.c_api.specs.Types.{type_found, type_wanted};
 
 use crate::shapes::{One, Three, Two, one_object, three_objects, two_objects};
 use crate::suited::comparison_of;
-use crate::texts::class_named;
 use api_model::{Change, Comparison, Make, Obj, Op};
+use c_state::class_named;
 use c_token::Bytes;
 use c_tree::TypeObject;
 use c_value::{Api, ItemPlace, Value, c_string, copied_bytes};

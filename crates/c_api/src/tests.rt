@@ -1,8 +1,8 @@
 use crate::{
-    answering, api_named, are_needed, asking, class_named, clean_fault, clears_error,
-    comparison_of, converted_by, copied_op, error_of, failure_of, gains_of, given_by, is_tuple,
-    lends_of, made, making_of, number_given, op_of, operands, sets_error, suit_row, suit_values,
-    type_wanted, value_of, values_by,
+    answering, api_named, are_needed, asking, clean_fault, clears_error, comparison_of,
+    converted_by, copied_op, error_of, failure_of, gains_of, given_by, is_tuple, lends_of, made,
+    making_of, number_given, op_of, operands, sets_error, suit_row, suit_values, type_wanted,
+    value_of, values_by,
 };
 use api_model::{Answer, ApiRow, Entry, Fails, Gives, Obj};
 use c_value::{Api, FaultKind, Kind, Making, Reading, Value};
@@ -28,15 +28,7 @@ fn functions_are_told(rt: HostRuntime) {
     assert!(rt; clean_fault(ROW) == FaultKind::ErrorSet);
     assert!(rt; sets_error(Api::SetString));
     assert!(rt; clears_error(Api::WriteUnraisable));
-    assert!(rt; !is_tuple(&Value::Null));
     let _null = failure_of(Fails::Null);
-}
-
-#[test]
-fn classes_have_names(rt: HostRuntime) -> Result<(), Fail> {
-    let name = class_named(rt.alloc(), b"m.C".as_slice())?;
-    assert_eq!(rt; name.class.as_slice().len(), 1);
-    Ok(())
 }
 
 #[test]

@@ -3,9 +3,9 @@ ghost use Rattle.std.specs.Prelude.{◌≡◌, ◌∷◌, [], IfOk, length};
 ghost use Rattle.c_api.specs.Meeting.{met};
 ghost use Rattle.c_api.specs.Ranges.{AreInRange};
 ghost use Rattle.c_state.specs.Rows.{all_but_last, are_needed, converted_by, is_needed, objects, operands, packed, ulong, values_by};
-ghost use Rattle.c_state.specs.Stores.{is_tuple};
 ghost use Rattle.c_value.specs.Values.{values_of};
 
+use c_state::is_tuple;
 use c_value::{Api, Kind, Reading, Value, converted, copied_value, is_null};
 use cy_base::OutOfMemory;
 use cy_num::{CNum, wrap_is_congruent};
@@ -137,13 +137,6 @@ pub fn operands(alloc: Global, api: Api, readings: &[Reading]) -> Result<Items<K
         Api::TupleItem => two(alloc, Kind::Object, SIZE),
         Api::FormatTest => two(alloc, Kind::Text, Kind::Text),
     }
-}
-
-/// Whether it is the arguments of an `__init__`.
-pub fn is_tuple(value: &Value) -> bool
-    ensures { result ≡ is_tuple value.now }
-{
-    matches!(value, Value::Tuple(_))
 }
 
 fn is_needed(kind: Kind, value: &Value) -> bool

@@ -7,7 +7,7 @@ use crate::{
     same_function, same_item, same_kind, same_number, same_place, same_pointer, same_table,
     same_variable, unset_of, values_of, with_extent, with_extents, wrapped, zero_of,
 };
-use api_model::{Allocation, Info, Obj, is_view};
+use api_model::{Allocation, Info, Obj};
 use c_token::Bytes;
 use c_tree::{
     CType, Extent, FieldNumber, FixedParameter, FunctionName, InitialValue, Numbered, Place,
@@ -150,7 +150,7 @@ fn views_tell_of_their_buffers(rt: HostRuntime) -> Result<(), Fail> {
         shape,
         strides,
     };
-    if is_view(&info) {
+    if api_model::is_view(&info) {
         assert_eq!(rt; ViewInfo::new(info).info().item, 8);
     }
     Ok(())
