@@ -1,9 +1,10 @@
 -- How an answer comes back to the frame that asked (Python/C API manual, "Reference Counts", "Exception Handling").
-use Rattle.std.specs.Prelude.{ℕ, List, [], ◌∷◌, Option, Some, pos, negsuc, length, true}
+use Rattle.std.specs.Prelude.{ℕ, List, [], ◌∷◌, Option, Some, pos, negsuc, length, true, if◌then◌else◌}
 use Rattle.api_model.specs.declared.object.Obj.{Obj}
 use Rattle.api_model.specs.declared.entry.Entry.{Entry}
 use Rattle.api_model.specs.declared.entry.Entry.TheVariants as entry
 use Rattle.api_model.specs.declared.event.Event.TheVariants as event
+use Rattle.api_model.specs.declared.info.Info.{Info}
 use Rattle.api_model.specs.declared.op.Op.{Op}
 use Rattle.api_model.specs.declared.op.Answer.{Answer}
 use Rattle.api_model.specs.declared.op.Answer.TheVariants as answers
@@ -12,7 +13,7 @@ use Rattle.api_model.specs.declared.rows.Gives.{Gives}
 use Rattle.api_model.specs.declared.rows.Gives.TheVariants as gives
 use Rattle.api_model.specs.declared.rows.Fails.{Fails}
 use Rattle.api_model.specs.declared.rows.Fails.TheVariants as fails
-use Rattle.api_model.specs.Answers.{answer_of, read_obj}
+use Rattle.api_model.specs.Answers.{answer_of, is_view, read_obj}
 use Rattle.c_tree.specs.declared.name.Variable.{Variable}
 use Rattle.c_value.specs.declared.value.Value.{Value}
 use Rattle.c_value.specs.declared.value.Value.TheVariants as value
@@ -32,8 +33,12 @@ use Rattle.c_state.specs.declared.state.State.{State}
 
 -- ---- what is new: an instance or a view
 
+-- what isn't in form is answered by no object
+abbrev pub viewed : Info → SpaceChange
+viewed i = if is_view i then space.Viewed i else space.Stays
+
 abbrev pub view_of : Entry → SpaceChange
-view_of (entry.View i) = space.Viewed i
+view_of (entry.View i) = viewed i
 view_of e = space.Stays
 
 abbrev pub added : Making → Entry → SpaceChange

@@ -68,8 +68,9 @@ abbrev pub result_of : Computed → Option (Kind × Value)
 result_of (computation.Value n) = Some (kind.Number n.kind, value.Number n.value)
 result_of computation.Undefined = None
 
+-- a number is one of its type (6.2.6.1)
 abbrev pub number : CNum → ℤ → Number
-number t z = record { kind = t; value = z }
+number t z = record { kind = t; value = wrap t z }
 
 abbrev pub computed_by : Kind → Value → BinaryOp → Kind → Value → Option (Kind × Value)
 computed_by (kind.Number t) (value.Number a) o (kind.Number u) (value.Number b) = result_of (computed o (number t a) (number u b))

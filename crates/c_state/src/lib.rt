@@ -2,6 +2,12 @@
 //! meets, the moves of the outside, and steps.
 #![tactic(auto)]
 
+mod arguments;
+mod names;
+mod planned;
 mod state;
 
+pub use arguments::is_tuple;
+pub use names::class_named;
+pub use planned::{lending, nothing};
 pub use state::{Frame, Shared, State, Thread};

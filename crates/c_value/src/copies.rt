@@ -1,8 +1,8 @@
 //! Copies.
 ghost use Rattle.std.specs.Prelude.{◌≡◌, IfOk};
 
-use api_model::Obj;
 use crate::{Instance, Kind, Memory, Part, Reading, Value, ViewValue};
+use api_model::Obj;
 use c_token::Bytes;
 use cy_base::OutOfMemory;
 use sqlite_items::Items;

@@ -14,6 +14,7 @@ mod space;
 mod step;
 #[cfg(test)]
 mod tests;
+mod texts;
 mod value;
 mod values;
 mod view;
@@ -37,6 +38,7 @@ pub use names::{
 pub use parts::{as_memory, extent_at, extents_of, memory_value, with_extent, with_extents};
 pub use space::{Course, Instance, Part, Spot};
 pub use step::{FaultKind, Step};
+pub use texts::c_string;
 pub use value::{Buffer, Extents, ItemPlace, Memory, Reading, Value, ViewValue};
 pub use values::{
     all_set, converted, fits, is_null, is_set, is_view_set, object_of, objects_in, passed,

@@ -1,13 +1,13 @@
 use crate::{
-    all_set, are_pointers, as_memory, converted, converts, copied_bytes, copied_instance,
+    Buffer, Extents, Instance, ItemPlace, Kind, Memory, Reading, Value, ViewInfo, ViewValue,
+    all_set, are_pointers, as_memory, c_string, converted, converts, copied_bytes, copied_instance,
     copied_objects, copied_reading, copied_value, extent_at, extents_of, fits, has_objects,
     initial_value, is_null, is_number, is_object, is_pointer, is_set, is_view, is_view_set,
     kind_of, memory_value, object_of, objects_in, passed, passed_with, same_field, same_fixed,
     same_function, same_item, same_kind, same_number, same_place, same_pointer, same_table,
     same_variable, unset_of, values_of, with_extent, with_extents, wrapped, zero_of,
 };
-use api_model::{Allocation, Obj};
-use crate::{Buffer, Extents, Instance, ItemPlace, Kind, Memory, Reading, Value, ViewValue};
+use api_model::{Allocation, Info, Obj};
 use c_token::Bytes;
 use c_tree::{
     CType, Extent, FieldNumber, FixedParameter, FunctionName, InitialValue, Numbered, Place,
@@ -115,6 +115,10 @@ fn values_are_copied(rt: HostRuntime) -> Result<(), Fail> {
     let text = Bytes::new(Vec::from_slice(rt.alloc(), b"ab".as_slice())?);
     let text = copied_bytes(rt.alloc(), &text)?;
     assert_eq!(rt; text.as_slice().len(), 2);
+    assert_eq!(rt;
+        c_string(rt.alloc(), b"ab\0c".as_slice())?.as_slice().len(),
+        2
+    );
     let mut objects = Items::new(rt.alloc());
     objects.push(Obj::NoneNode)?;
     assert_eq!(rt; copied_objects(rt.alloc(), objects.as_slice())?.len(), 1);
@@ -128,5 +132,26 @@ fn values_are_copied(rt: HostRuntime) -> Result<(), Fail> {
         parts: Items::new(rt.alloc()),
     };
     assert!(rt; copied_instance(rt.alloc(), &instance)?.alive);
+    Ok(())
+}
+
+#[test]
+fn views_tell_of_their_buffers(rt: HostRuntime) -> Result<(), Fail> {
+    let mut shape = Items::new(rt.alloc());
+    shape.push(2)?;
+    let mut strides = Items::new(rt.alloc());
+    strides.push(8)?;
+    let info = Info {
+        letter: None,
+        at_sign: false,
+        item: 8,
+        readonly: true,
+        indirect: false,
+        shape,
+        strides,
+    };
+    if api_model::is_view(&info) {
+        assert_eq!(rt; ViewInfo::new(info).info().item, 8);
+    }
     Ok(())
 }

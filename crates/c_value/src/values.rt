@@ -6,8 +6,8 @@ ghost use Rattle.c_value.specs.Values.{all_set, converted, fits, is_buffer_set, 
 use crate::copies::{copied_objects, copied_value};
 use crate::kinds::converts;
 use crate::names::same_item;
-use api_model::{Allocation, Obj};
 use crate::{Buffer, Extents, Kind, Memory, Reading, Value, ViewValue};
+use api_model::{Allocation, Obj};
 use cy_base::OutOfMemory;
 use cy_num::{CNum, wrap};
 use sqlite_items::Items;

@@ -24,6 +24,7 @@ impl Model for ViewInfo {
 }
 
 impl ViewInfo {
+    /// What a view tells that is in form.
     pub fn new(info: Info) -> ViewInfo
         requires { is_view info ≡ true }
         ensures { result ≡ info }
@@ -31,6 +32,7 @@ impl ViewInfo {
         ViewInfo { info }
     }
 
+    /// What it tells.
     pub fn info(&self) -> &Info
         ensures { (result.now ≡ self.now) × (is_view result.now ≡ true) }
     {

@@ -1,0 +1,5 @@
+pub mod Meeting
+pub mod Names
+pub mod Ranges
+pub mod Shapes
+pub mod Types
