@@ -1,14 +1,12 @@
 //! What one thread's own parts become.
 ghost use Rattle.std.specs.Prelude.{◌≡◌, None, Some, IfOk, OnOk};
-ghost use Rattle.c_state.specs.Changed.{clear_error, course_changed, doing_it, error_changed, fail_initialising, gain, leave_frame, lend, lock_changed, lose, remember, stop_loans, take_entry};
-ghost use Rattle.c_state.specs.State.{in_frame};
+ghost use Rattle.c_state.specs.Changed.{clear_error, course_changed, error_changed, gain, leave_frame, lend, lock_changed, lose, remember, stop_loans, take_entry};
 
 use api_model::Obj;
-use c_state::{Frame, State};
-use c_value::{Course, Doing, ErrorChange, Remembering};
+use c_state::State;
+use c_value::{Course, ErrorChange, Remembering};
 use cy_base::OutOfMemory;
 use sqlite_items::Items;
-use std::mem::replace;
 
 /// The next entry of the script is taken.
 pub fn take_entry(state: &mut State, takes: bool) -> Result<(), OutOfMemory>
@@ -105,23 +103,5 @@ pub fn change_course(state: &mut State, course: Option<Course>)
 {
     if let Some(course) = course {
         state.thread.course = course;
-    }
-}
-
-// The old value goes in a function of its own, so that its variants don't split the caller's proof.
-fn let_go(_doing: Doing) {}
-
-fn give_doing(frame: &mut Frame, doing: Doing)
-    ensures { frame.new ≡ doing_it doing frame.old }
-{
-    let_go(replace(&mut frame.doing, doing));
-}
-
-/// What the newest frame does next.
-pub fn set_doing(state: &mut State, doing: Doing)
-    ensures { state.new ≡ in_frame (doing_it doing) state.old }
-{
-    if let Some(frame) = state.thread.frames.front_mut() {
-        give_doing(frame, doing);
     }
 }

@@ -1,0 +1,8 @@
+//! The instances and the places of all files, as they are changed.
+#![tactic(auto)]
+
+mod instances;
+mod places;
+
+pub use instances::Instances;
+pub use places::Places;
