@@ -58,11 +58,7 @@ fn any_global(arguments: &[Argument], readings: &[Reading]) -> bool
 }
 
 /// The loans that reading an operand makes.
-pub fn lends(
-    alloc: Global,
-    operand: CValue,
-    reading: &Reading,
-) -> Result<Items<Obj>, OutOfMemory>
+pub fn lends(alloc: Global, operand: CValue, reading: &Reading) -> Result<Items<Obj>, OutOfMemory>
     ensures { IfOk result (λ r. r ≡ lends operand reading.now) }
 {
     if reads_global(operand, reading) {
