@@ -6,6 +6,8 @@ mod assigned;
 mod computed;
 mod jumps;
 mod operand;
+#[cfg(test)]
+mod tests;
 
 pub use assigned::{assign, binary, cast, invert};
 pub use computed::{
