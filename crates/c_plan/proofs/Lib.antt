@@ -1,2 +1,4 @@
 pub mod Among
 pub mod Ends
+pub mod Indexed
+pub mod Unless

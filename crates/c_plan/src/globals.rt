@@ -12,8 +12,7 @@ use cy_base::OutOfMemory;
 use sqlite_items::Items;
 use std::alloc::Global;
 
-/// Whether a variable is a module variable that holds objects.
-pub fn is_global(variable: Variable, kind: Kind) -> bool
+fn is_global(variable: Variable, kind: Kind) -> bool
     ensures { result ≡ is_global variable kind }
 {
     match variable {
@@ -22,8 +21,7 @@ pub fn is_global(variable: Variable, kind: Kind) -> bool
     }
 }
 
-/// Whether an operand is such a variable.
-pub fn reads_global(operand: CValue, reading: &Reading) -> bool
+fn reads_global(operand: CValue, reading: &Reading) -> bool
     ensures { result ≡ reads_global operand reading.now }
 {
     match operand {
@@ -32,8 +30,7 @@ pub fn reads_global(operand: CValue, reading: &Reading) -> bool
     }
 }
 
-/// Whether an argument is such a variable.
-pub fn argument_reads_global(argument: &Argument, reading: &Reading) -> bool
+fn argument_reads_global(argument: &Argument, reading: &Reading) -> bool
     ensures { result ≡ argument_reads_global argument.now reading.now }
 {
     match argument {
@@ -58,11 +55,7 @@ fn any_global(arguments: &[Argument], readings: &[Reading]) -> bool
 }
 
 /// The loans that reading an operand makes.
-pub fn lends(
-    alloc: Global,
-    operand: CValue,
-    reading: &Reading,
-) -> Result<Items<Obj>, OutOfMemory>
+pub fn lends(alloc: Global, operand: CValue, reading: &Reading) -> Result<Items<Obj>, OutOfMemory>
     ensures { IfOk result (λ r. r ≡ lends operand reading.now) }
 {
     if reads_global(operand, reading) {
@@ -72,8 +65,7 @@ pub fn lends(
     }
 }
 
-/// The loans that reading an argument makes.
-pub fn argument_lends(
+fn argument_lends(
     alloc: Global,
     argument: &Argument,
     reading: &Reading,

@@ -27,7 +27,7 @@ pub fn instance_at(state: &State, number: u32) -> Option<&Instance>
 }
 
 /// The instance that a value is.
-pub fn instance_of(state: &State, value: &Value) -> Option<&Instance>
+pub fn instance_of<'a>(state: &'a State, value: &Value) -> Option<&'a Instance>
     ensures { option_copied result ≡ instance_of state.now value.now }
 {
     match value {
@@ -58,7 +58,12 @@ fn field_in(fields: Option<&Items<(Kind, Value)>>, field: u32) -> Option<&Value>
 }
 
 /// What a field of an instance holds, where a value is an instance with that struct.
-pub fn field_value(state: &State, value: &Value, class: Numbered, field: u32) -> Option<&Value>
+pub fn field_value<'a>(
+    state: &'a State,
+    value: &Value,
+    class: Numbered,
+    field: u32,
+) -> Option<&'a Value>
     ensures { option_copied result ≡ field_value state.now value.now class field }
 {
     match instance_of(state, value) {

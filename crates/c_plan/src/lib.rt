@@ -3,18 +3,19 @@
 #![tactic(auto)]
 
 mod globals;
-mod held;
+mod holding;
 mod instances;
 mod reads;
 mod spots;
 mod stores;
 mod targets;
+#[cfg(test)]
+mod tests;
 
 pub use globals::{
-    argument_lends, argument_reads_global, is_global, lends, lends_each, may_read, may_read_each,
-    reads_global,
+    lends, lends_each, may_read, may_read_each,
 };
-pub use held::{all_held, held, in_constants};
+pub use holding::{all_held, held, in_constants};
 pub use instances::{field_value, instance_at, instance_of, part_of};
 pub use reads::{
     argument_at, class_object_of, definition_reading, literal_reading, type_address,

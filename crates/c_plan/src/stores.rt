@@ -3,8 +3,12 @@
 ghost use Rattle.std.specs.Prelude.{◌≡◌, ◌++◌, IfOk, Some};
 ghost use Rattle.c_ledger.specs.Ledger.{has};
 ghost use Rattle.c_ledger.specs.OfNewest.{has_all};
+ghost use Rattle.c_plan.specs.Faults.{place_fault, unless};
 ghost use Rattle.c_state.specs.Stores.{give, give_by, give_place, give_to, give_to_by, may_store, may_store_to, may_write, may_write_to, moving, owns_moved, result_may_store};
 ghost use Rattle.c_value.specs.Values.{objects_in_memory};
+ghost use Rattle.c_value.specs.declared.step.FaultKind.TheVariants as faults;
+ghost use Rattle.c_state.specs.Planned.{need_some};
+ghost use Rattle.std.specs.Option.{option_copied};
 ghost use Rattle.c_value.specs.declared.change.Planned.TheVariants.{Does, Fault};
 
 use crate::spots::{find_spot, is_constant, is_module_variable};
@@ -84,6 +88,43 @@ fn moving(
     Ok(giving(variable, value, change))
 }
 
+fn place_fault(
+    state: &State,
+    own: &[Obj],
+    gained: &[Obj],
+    value: &Value,
+    spot: &Spot,
+) -> Option<FaultKind>
+    ensures { result ≡ place_fault state.now (own.now ++ gained.now) value.now spot.now }
+{
+    if !may_store(spot) || is_tuple(value) {
+        return Some(FaultKind::Stuck);
+    }
+    if state.strict && !may_write(state, spot) {
+        return Some(FaultKind::Unlocked);
+    }
+    if state.strict && !owns_moved(own, gained, value) {
+        return Some(FaultKind::Unheld);
+    }
+    None
+}
+
+fn stored(
+    alloc: Global,
+    fault: Option<FaultKind>,
+    variable: Variable,
+    value: Value,
+    old: &Value,
+    change: Change,
+) -> Result<Planned, OutOfMemory>
+    ensures { IfOk result (λ p. p ≡ unless fault (Does (moving variable value old.now change))) }
+{
+    match fault {
+        Some(kind) => Ok(refused(kind, value, change)),
+        None => moving(alloc, variable, value, old, change),
+    }
+}
+
 fn give_place(
     alloc: Global,
     state: &State,
@@ -93,18 +134,28 @@ fn give_place(
     change: Change,
     spot: &Spot,
 ) -> Result<Planned, OutOfMemory>
-    ensures { IfOk result (λ p. p ≡ give_place state.now own.now variable value change spot.now) }
+    ensures { IfOk result (λ p. p ≡ unless (place_fault state.now (own.now ++ change.gains) value spot.now) (Does (moving variable value spot.now.value change))) }
 {
-    if !may_store(spot) || is_tuple(&value) {
-        return Ok(refused(FaultKind::Stuck, value, change));
+    let fault = place_fault(state, own, change.gains.as_slice(), &value, spot);
+    stored(alloc, fault, variable, value, &spot.value, change)
+}
+
+#[tactic(auto, using(crate::proofs::Unless::stores))]
+fn give_found(
+    alloc: Global,
+    state: &State,
+    own: &[Obj],
+    variable: Variable,
+    value: Value,
+    change: Change,
+    spot: Option<&Spot>,
+) -> Result<Planned, OutOfMemory>
+    ensures { IfOk result (λ p. p ≡ need_some (option_copied spot.entry) faults.Stuck (give_place state.now own.now variable value change)) }
+{
+    match spot {
+        Some(spot) => give_place(alloc, state, own, variable, value, change, spot),
+        None => Ok(refused(FaultKind::Stuck, value, change)),
     }
-    if state.strict && !may_write(state, spot) {
-        return Ok(refused(FaultKind::Unlocked, value, change));
-    }
-    if state.strict && !owns_moved(own, change.gains.as_slice(), &value) {
-        return Ok(refused(FaultKind::Unheld, value, change));
-    }
-    moving(alloc, variable, value, &spot.value, change)
 }
 
 /// A value goes to a variable of a frame that owns these references, or to a place of its file, beside other changes.
@@ -120,10 +171,10 @@ pub fn give_by(
     ensures { IfOk result (λ p. p ≡ give_by state.now file own.now variable value change) }
 {
     match variable {
-        Variable::Place(place) => match find_spot(state, file, place) {
-            Some(spot) => give_place(alloc, state, own, variable, value, change, spot),
-            None => Ok(refused(FaultKind::Stuck, value, change)),
-        },
+        Variable::Place(place) => {
+            let spot = find_spot(state, file, place);
+            give_found(alloc, state, own, variable, value, change, spot)
+        }
         _ => Ok(giving(variable, value, change)),
     }
 }
