@@ -1,0 +1,4 @@
+pub mod Finds
+pub mod Kept
+pub mod Shown
+pub mod Tests
