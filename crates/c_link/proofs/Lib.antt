@@ -1,3 +1,5 @@
+mod Chains
 mod Finds
+mod Slots
 mod Tests
 mod Turned

@@ -80,6 +80,13 @@ impl LinkedFile {
         }
     }
 
+    /// How many items there are.
+    pub fn len(&self) -> u32
+        ensures { result ≡ length self.now.items }
+    {
+        self.count
+    }
+
     pub fn items(&self) -> &[LinkedItem]
         ensures { result.now ≡ self.now.items }
     {

@@ -61,13 +61,12 @@ fn counted(files: &[LinkedFile]) -> Result<usize, OutOfMemory>
 }
 
 fn find_among(files: &[LinkedFile], count: u32, test: Test<'_>, from: u32) -> Option<ItemPlace>
-    requires { count ≡ length files.now }
+    requires whole { count ≡ length files.now }
     ensures { result ≡ item_among (passes test.entry) from (drop from files.now) }
 {
     for file in from..count {
-        let found = files[file as usize].find(test, file);
-        if found.is_some() {
-            return found;
+        if let Some(place) = files[file as usize].find(test, file) {
+            return Some(place);
         }
     }
     None
@@ -79,6 +78,15 @@ fn items_at(files: &[LinkedFile], file: u32) -> &[LinkedItem]
     match files.get(file as usize) {
         Some(file) => file.items(),
         None => &[],
+    }
+}
+
+fn items_in(files: &[LinkedFile], file: u32) -> u32
+    ensures { result ≡ length (items_at files.now file) }
+{
+    match files.get(file as usize) {
+        Some(file) => file.len(),
+        None => 0,
     }
 }
 
@@ -128,6 +136,13 @@ impl Linked {
         ensures { result.now ≡ items_at self.now file }
     {
         items_at(self.files.as_slice(), file)
+    }
+
+    /// How many items a file has.
+    pub(crate) fn items_in(&self, file: u32) -> u32
+        ensures { result ≡ length (items_at self.now file) }
+    {
+        items_in(self.files.as_slice(), file)
     }
 
     pub(crate) fn item(&self, place: ItemPlace) -> Option<&LinkedItem>

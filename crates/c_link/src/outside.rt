@@ -43,7 +43,7 @@ fn methods_in(item: &CItem) -> &[MethodRow]
     }
 }
 
-fn as_methods(item: Option<&LinkedItem>) -> &[MethodRow]
+pub fn as_methods(item: Option<&LinkedItem>) -> &[MethodRow]
     ensures { result.now ≡ as_methods (option_copied item.entry) }
 {
     match item {

@@ -27,7 +27,7 @@ pub struct TableStructOf<'a> {
 }
 
 fn struct_in(item: &CItem) -> Option<StructOf<'_>>
-    ensures { shown_struct result.entry ≡ as_struct (Some item.now) }
+    ensures { shown_struct result ≡ as_struct (Some item.now) }
 {
     match item {
         CItem::InstanceStruct(_, base, fields) => Some(StructOf {
@@ -39,7 +39,7 @@ fn struct_in(item: &CItem) -> Option<StructOf<'_>>
 }
 
 fn as_struct(item: Option<&LinkedItem>) -> Option<StructOf<'_>>
-    ensures { shown_struct result.entry ≡ as_struct (option_copied item.entry) }
+    ensures { shown_struct result ≡ as_struct (option_copied item.entry) }
 {
     match item {
         None => None,
@@ -51,7 +51,7 @@ fn as_struct(item: Option<&LinkedItem>) -> Option<StructOf<'_>>
 }
 
 fn table_struct_in(item: &CItem) -> Option<TableStructOf<'_>>
-    ensures { shown_table_struct result.entry ≡ as_table_struct (Some item.now) }
+    ensures { shown_table_struct result ≡ as_table_struct (Some item.now) }
 {
     match item {
         CItem::TableStruct(_, base, slots) => Some(TableStructOf {
@@ -63,7 +63,7 @@ fn table_struct_in(item: &CItem) -> Option<TableStructOf<'_>>
 }
 
 fn as_table_struct(item: Option<&LinkedItem>) -> Option<TableStructOf<'_>>
-    ensures { shown_table_struct result.entry ≡ as_table_struct (option_copied item.entry) }
+    ensures { shown_table_struct result ≡ as_table_struct (option_copied item.entry) }
 {
     match item {
         None => None,
@@ -106,7 +106,7 @@ fn begins_with(files: &Linked, class: Numbered, wanted: Numbered) -> bool
 impl Linked {
     /// The struct of a class's instances (ISO/IEC 9899:2011 6.7.2.1).
     pub fn struct_of(&self, class: Numbered) -> Option<StructOf<'_>>
-        ensures { shown_struct result.entry ≡ struct_of self.entry.now class }
+        ensures { shown_struct result ≡ struct_of self.entry.now class }
     {
         as_struct(self.found(self.first(Test::Struct(class), 0)))
     }
@@ -126,7 +126,7 @@ impl Linked {
 
     /// The struct of a class's method table.
     pub fn table_struct_of(&self, class: Numbered) -> Option<TableStructOf<'_>>
-        ensures { shown_table_struct result.entry ≡ table_struct_of self.entry.now class }
+        ensures { shown_table_struct result ≡ table_struct_of self.entry.now class }
     {
         as_table_struct(self.found(self.first(Test::TableStruct(class), 0)))
     }

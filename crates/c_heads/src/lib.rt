@@ -1,0 +1,6 @@
+//! The parameters, types and results of functions, by their heads.
+#![tactic(auto)]
+
+mod heads;
+
+pub use heads::{kinds_in, kinds_of, parameters, result_by, result_kind, same_kinds, same_result};
