@@ -1,5 +1,7 @@
-mod Chains
+mod DeallocSteps
 mod Finds
+mod NameSteps
+mod PartSteps
 mod Slots
 mod Tests
 mod Turned

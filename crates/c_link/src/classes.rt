@@ -1,9 +1,11 @@
 //! Classes by their names.
 ghost use Rattle.std.specs.Prelude.{◌≡◌};
+ghost use Rattle.std.specs.Str.{bytes_eq};
 ghost use Rattle.c_state.specs.Linked.{class_named_in, is_class, is_place};
 
 use crate::item::{Kept, LinkedItem};
 use crate::linked::Linked;
+use c_token::Bytes;
 use c_tree::CItem;
 use c_value::{ItemPlace, same_item};
 
@@ -16,12 +18,18 @@ fn is_place(place: ItemPlace, found: Option<ItemPlace>) -> bool
     }
 }
 
+fn is_named(name: &Bytes, wanted: &[u8]) -> bool
+    ensures { result ≡ bytes_eq name.now wanted.now }
+{
+    name.as_slice() == wanted
+}
+
 fn is_class_in(files: &Linked, name: &[u8], place: ItemPlace, item: &CItem) -> bool
     ensures { result ≡ is_class files.now name.now place item.now }
 {
     match item {
         CItem::Type(_, object) => {
-            object.name.as_slice() == name
+            is_named(&object.name, name)
                 && is_place(place, files.type_named(place.file, object.class))
         }
         _ => false,

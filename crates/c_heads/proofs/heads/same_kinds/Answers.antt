@@ -1,4 +1,4 @@
-use Rattle.c_heads.proofs.Kinds.{not-same}
+use Rattle.c_heads.proofs.Differing.{not-same}
 use Rattle.c_heads.proofs.heads.same_kinds.Goals as goal
 
 pub returns-then-a-b : goal.returns-then-a-b
