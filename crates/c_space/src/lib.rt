@@ -3,6 +3,8 @@
 
 mod instances;
 mod places;
+#[cfg(test)]
+mod tests;
 
 pub use instances::Instances;
 pub use places::Places;
