@@ -12,6 +12,8 @@ mod method_tables;
 mod outside;
 mod structs;
 mod test;
+#[cfg(test)]
+mod tests;
 mod types;
 mod wrappers;
 
