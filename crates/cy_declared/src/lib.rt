@@ -11,6 +11,8 @@ mod owned;
 mod signature;
 mod table;
 mod tables;
+#[cfg(test)]
+mod tests;
 mod types;
 mod variable;
 

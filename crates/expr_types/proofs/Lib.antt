@@ -1,0 +1,4 @@
+pub mod Fills
+pub mod Firsts
+pub mod Retakes
+pub mod Rows

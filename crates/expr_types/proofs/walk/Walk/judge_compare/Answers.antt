@@ -1,0 +1,13 @@
+use Rattle.std.proofs.Common.{None, rules}
+use Rattle.expr_types.specs.Expressions.{judged, value_of}
+use Rattle.expr_types.specs.Said.{written}
+use Rattle.expr_types.proofs.Fills.{filled-both}
+use Rattle.expr_types.proofs.walk.Walk.judge_compare.Goals as goal
+
+pub returns-clause-nodes : goal.returns-clause-nodes
+returns-clause-nodes g c =
+    let S = g.A.Around.surroundings c.args.self.now.around.now in
+    let X = (value_of c.args.self.now.file (judged S c.args.self.now.file c.args.x.now)) in
+    let Y = (value_of c.args.self.now.file (judged S c.args.self.now.file c.args.y.now)) in
+    filled-both c.args.infos.now.items X.inside Y.inside (written X.told None) (written Y.told None)
+    c.fill_both.ensures (search rules) (search rules) (search rules) (search rules) (search rules)

@@ -1,0 +1,14 @@
+use Rattle.std.proofs.Common.{None, rules}
+use Rattle.expr_types.specs.Expressions.{judged, value_of}
+use Rattle.expr_types.specs.Operators.{row_nodes}
+use Rattle.expr_types.specs.Said.{written}
+use Rattle.expr_types.specs.Walk.{sum_row}
+use Rattle.expr_types.proofs.Fills.{filled-behind}
+use Rattle.expr_types.proofs.walk.Walk.judge_sum.Goals as goal
+
+pub returns-clause-nodes : goal.returns-clause-nodes
+returns-clause-nodes g c =
+    let S = g.A.Around.surroundings c.args.self.now.around.now in
+    let X = (value_of c.args.self.now.file (judged S c.args.self.now.file c.args.x.now)) in
+    filled-behind c.args.infos.now.items X.inside (row_nodes S X.told.said (sum_row S c.args.self.now.file c.args.more.now)) (written X.told None)
+    c.fill.ensures (search rules) (search rules) (search rules)

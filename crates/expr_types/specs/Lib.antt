@@ -1,0 +1,9 @@
+pub mod Casts
+pub mod Expressions
+pub mod Joined
+pub mod Judges
+pub mod Operators
+pub mod Parts
+pub mod Said
+pub mod Targets
+pub mod Walk
