@@ -1,4 +1,6 @@
+pub mod Arguments
 pub mod Fills
 pub mod Firsts
+pub mod Opened
 pub mod Retakes
 pub mod Rows

@@ -2,6 +2,7 @@ pub mod Casts
 pub mod Expressions
 pub mod Joined
 pub mod Judges
+pub mod Levels
 pub mod Operators
 pub mod Parts
 pub mod Said

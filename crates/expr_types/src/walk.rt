@@ -1,15 +1,19 @@
 //! One walk over an expression.
 ghost use Rattle.std.specs.Prelude.{List, ◌≡◌, ◌++◌, ◌<◌, ◌≤◌, [], ◌∷◌, Some, None, true, false, IfOk, OnOk, length, slice_set};
-ghost use Rattle.std.specs.Option.{option_copied, option_map};
+ghost use Rattle.std.specs.Option.{option_copied};
+ghost use Rattle.cy_tree.specs.declared.expr.Expr.{out-Expr};
+ghost use Rattle.cy_tree.specs.declared.expr.Index.{out-Index};
+ghost use Rattle.cy_tree.specs.declared.expr.Part.{out-Part};
 ghost use Rattle.cy_tree.specs.declared.set.NodeInfo.{NodeInfo};
 ghost use Rattle.expr_types.specs.declared.said.Said.{Said};
 ghost use Rattle.expr_types.specs.Casts.{casting};
-ghost use Rattle.expr_types.specs.Expressions.{choice, condition, display, indexed, judged, maybe_value, name_leaf, object_item, pair_pieces, part_said, value_of, values_of};
+ghost use Rattle.expr_types.specs.Expressions.{choice, condition, display, indexed, judged, name_leaf, object_item, pair_pieces, part_said, value_of, values_of};
 ghost use Rattle.expr_types.specs.Joined.{all_breaches, arms, choosing, conditional, nodes_taking, one_type, taking, tolds};
 ghost use Rattle.expr_types.specs.Operators.{comparing, first_right, how_beside, operand, operand_broken, operating, row_broken, row_nodes, row_said, unary_of};
 ghost use Rattle.expr_types.specs.Parts.{atom_said, attribute, c_call, call, element_or_view, first_is_call, function_call, index_pieces, is_below, is_dimension, item, literal_of, object_call, object_index, one_index, parts_broken, parts_nodes, parts_prefix, postfix_of, prefix_broken, prefix_of, prefix_told, right, shape_index, slice, slice_end, slices, stopped, view_index, wanted_index, wrong};
 ghost use Rattle.expr_types.specs.Said.{Judged, all_fine, all_meeting, alone, blank, breaks, broken_in, if_fine, judged_as, meeting, misused, node_of, nodes_in, of_pieces, plain, used, wanting, written};
 ghost use Rattle.expr_types.specs.Judges.{Judges};
+ghost use Rattle.expr_types.specs.Levels.{end_value, expr_level, index_level, part_level};
 ghost use Rattle.expr_types.specs.Walk.{all_indexed, all_judged, alone_pieces, argument_pieces, bits_row, condition_pieces, entry_pieces, first_or, all_parts, item_pieces, retaken, seens_from, shift_row, sum_row, term_row, unfilled};
 
 use crate::cast::cast_type;
@@ -215,7 +219,7 @@ impl<
         )
     }
 
-    #[tactic(auto, unfolding(crate::specs::Expressions::judged, crate::specs::Expressions::part_said))]
+    // An expression, by its form.
     pub(crate) fn level(
         &self,
         e: &Expr,
@@ -224,9 +228,9 @@ impl<
         broken: &mut Vec<Refusal>,
     ) -> Result<Told, OutOfMemory>
         requires { Judges A.surroundings self.now.room (F.pre self.now.inner) (F.post self.now.inner) }
-        ensures told { IfOk result (λ told. told ≡ (judged (A.surroundings self.now.around.now) self.now.file e.now is_condition).told) }
-        ensures nodes { OnOk result (infos.new.items ≡ infos.old.items ++ (judged (A.surroundings self.now.around.now) self.now.file e.now is_condition).inside) }
-        ensures broken { OnOk result (broken.new.items ≡ broken.old.items ++ (judged (A.surroundings self.now.around.now) self.now.file e.now is_condition).breaches) }
+        ensures told { IfOk result (λ told. told ≡ (expr_level (A.surroundings self.now.around.now) self.now.file (out-Expr e.now) is_condition).told) }
+        ensures nodes { OnOk result (infos.new.items ≡ infos.old.items ++ (expr_level (A.surroundings self.now.around.now) self.now.file (out-Expr e.now) is_condition).inside) }
+        ensures broken { OnOk result (broken.new.items ≡ broken.old.items ++ (expr_level (A.surroundings self.now.around.now) self.now.file (out-Expr e.now) is_condition).breaches) }
     {
         match e {
             Expr::Conditional(at, value, test, other) => self.judge_conditional(
@@ -351,16 +355,17 @@ impl<
         Ok(Seen { told, place })
     }
 
-    // An expression that meets a place of a type, and whether it does without breaking a rule.
-    pub(crate) fn judge_meeting(
+    // An expression that meets a place of a type: whether it does without breaking a rule, and what it is.
+    fn judge_wanted(
         &self,
         to: Ty,
         e: &Expr,
         infos: &mut Vec<NodeInfo>,
         broken: &mut Vec<Refusal>,
-    ) -> Result<bool, OutOfMemory>
+    ) -> Result<Met, OutOfMemory>
         requires { Judges A.surroundings self.now.room (F.pre self.now.inner) (F.post self.now.inner) }
-        ensures fine { IfOk result (λ is_fine. is_fine ≡ (meeting (A.surroundings self.now.around.now) self.now.file to (value_of self.now.file (judged (A.surroundings self.now.around.now) self.now.file e.now))).fine) }
+        ensures fine { IfOk result (λ met. met.is_fine ≡ (meeting (A.surroundings self.now.around.now) self.now.file to (value_of self.now.file (judged (A.surroundings self.now.around.now) self.now.file e.now))).fine) }
+        ensures said { IfOk result (λ met. met.said ≡ (value_of self.now.file (judged (A.surroundings self.now.around.now) self.now.file e.now)).told.said) }
         ensures nodes { OnOk result (infos.new.items ≡ infos.old.items ++ (meeting (A.surroundings self.now.around.now) self.now.file to (value_of self.now.file (judged (A.surroundings self.now.around.now) self.now.file e.now))).nodes) }
         ensures broken { OnOk result (broken.new.items ≡ broken.old.items ++ (meeting (A.surroundings self.now.around.now) self.now.file to (value_of self.now.file (judged (A.surroundings self.now.around.now) self.now.file e.now))).breaches) }
     {
@@ -373,7 +378,26 @@ impl<
         );
         note_uncoerced(self.around, self.file, told.at, to, told.said, broken)?;
         note_too_large(self.file, told.at, to, told.said, broken)?;
-        Ok(fits(self.around, to, told.said))
+        Ok(Met {
+            is_fine: fits(self.around, to, told.said),
+            said: told.said,
+        })
+    }
+
+    // Whether an expression that meets a place of a type breaks no rule.
+    pub(crate) fn judge_meeting(
+        &self,
+        to: Ty,
+        e: &Expr,
+        infos: &mut Vec<NodeInfo>,
+        broken: &mut Vec<Refusal>,
+    ) -> Result<bool, OutOfMemory>
+        requires { Judges A.surroundings self.now.room (F.pre self.now.inner) (F.post self.now.inner) }
+        ensures fine { IfOk result (λ is_fine. is_fine ≡ (meeting (A.surroundings self.now.around.now) self.now.file to (value_of self.now.file (judged (A.surroundings self.now.around.now) self.now.file e.now))).fine) }
+        ensures nodes { OnOk result (infos.new.items ≡ infos.old.items ++ (meeting (A.surroundings self.now.around.now) self.now.file to (value_of self.now.file (judged (A.surroundings self.now.around.now) self.now.file e.now))).nodes) }
+        ensures broken { OnOk result (broken.new.items ≡ broken.old.items ++ (meeting (A.surroundings self.now.around.now) self.now.file to (value_of self.now.file (judged (A.surroundings self.now.around.now) self.now.file e.now))).breaches) }
+    {
+        Ok(self.judge_wanted(to, e, infos, broken)?.is_fine)
     }
 
     // An expression whose truth is asked.
@@ -394,7 +418,28 @@ impl<
         Ok(fits(self.around, Ty::Bint, told.said))
     }
 
-    // An expression of which nothing is wanted, and whether it breaks no rule.
+    // An expression of which nothing is wanted: whether it breaks no rule, and what it is.
+    fn judge_unwanted(
+        &self,
+        e: &Expr,
+        infos: &mut Vec<NodeInfo>,
+        broken: &mut Vec<Refusal>,
+    ) -> Result<Met, OutOfMemory>
+        requires { Judges A.surroundings self.now.room (F.pre self.now.inner) (F.post self.now.inner) }
+        ensures fine { IfOk result (λ met. met.is_fine ≡ (alone self.now.file (value_of self.now.file (judged (A.surroundings self.now.around.now) self.now.file e.now))).fine) }
+        ensures said { IfOk result (λ met. met.said ≡ (value_of self.now.file (judged (A.surroundings self.now.around.now) self.now.file e.now)).told.said) }
+        ensures nodes { OnOk result (infos.new.items ≡ infos.old.items ++ (alone self.now.file (value_of self.now.file (judged (A.surroundings self.now.around.now) self.now.file e.now))).nodes) }
+        ensures broken { OnOk result (broken.new.items ≡ broken.old.items ++ (alone self.now.file (value_of self.now.file (judged (A.surroundings self.now.around.now) self.now.file e.now))).breaches) }
+    {
+        let told = self.judge_node(e, false, infos, broken)?.told;
+        note_large_alone(self.file, told.at, told.said, broken)?;
+        Ok(Met {
+            is_fine: is_sound(told.said),
+            said: told.said,
+        })
+    }
+
+    // Whether an expression of which nothing is wanted breaks no rule.
     pub(crate) fn judge_alone(
         &self,
         e: &Expr,
@@ -406,9 +451,7 @@ impl<
         ensures nodes { OnOk result (infos.new.items ≡ infos.old.items ++ (alone self.now.file (value_of self.now.file (judged (A.surroundings self.now.around.now) self.now.file e.now))).nodes) }
         ensures broken { OnOk result (broken.new.items ≡ broken.old.items ++ (alone self.now.file (value_of self.now.file (judged (A.surroundings self.now.around.now) self.now.file e.now))).breaches) }
     {
-        let told = self.judge_node(e, false, infos, broken)?.told;
-        note_large_alone(self.file, told.at, told.said, broken)?;
-        Ok(is_sound(told.said))
+        Ok(self.judge_unwanted(e, infos, broken)?.is_fine)
     }
 
     // Expressions that meet a place of an object each.
@@ -1173,30 +1216,9 @@ impl<
         ensures nodes { OnOk result (infos.new.items ≡ infos.old.items ++ (wanting (A.surroundings self.now.around.now) self.now.file wanted (value_of self.now.file (judged (A.surroundings self.now.around.now) self.now.file e.now))).nodes) }
         ensures broken { OnOk result (broken.new.items ≡ broken.old.items ++ (wanting (A.surroundings self.now.around.now) self.now.file wanted (value_of self.now.file (judged (A.surroundings self.now.around.now) self.now.file e.now))).breaches) }
     {
-        let seen = self.judge_node(e, false, infos, broken)?;
-        let told = seen.told;
-        let said = told.said;
         match wanted {
-            None => {
-                note_large_alone(self.file, told.at, said, broken)?;
-                Ok(Met {
-                    is_fine: is_sound(said),
-                    said,
-                })
-            }
-            Some(to) => {
-                fill(
-                    infos,
-                    seen.place,
-                    written(told, how_met(self.around, to, said)),
-                );
-                note_uncoerced(self.around, self.file, told.at, to, said, broken)?;
-                note_too_large(self.file, told.at, to, said, broken)?;
-                Ok(Met {
-                    is_fine: fits(self.around, to, said),
-                    said,
-                })
-            }
+            None => self.judge_unwanted(e, infos, broken),
+            Some(to) => self.judge_wanted(to, e, infos, broken),
         }
     }
 
@@ -1209,9 +1231,9 @@ impl<
         broken: &mut Vec<Refusal>,
     ) -> Result<bool, OutOfMemory>
         requires { Judges A.surroundings self.now.room (F.pre self.now.inner) (F.post self.now.inner) }
-        ensures fine { IfOk result (λ is_fine. is_fine ≡ all_fine (slice_end (A.surroundings self.now.around.now) self.now.file wanted (maybe_value self.now.file (option_map (judged (A.surroundings self.now.around.now) self.now.file) end.now)))) }
-        ensures nodes { OnOk result (infos.new.items ≡ infos.old.items ++ nodes_in (slice_end (A.surroundings self.now.around.now) self.now.file wanted (maybe_value self.now.file (option_map (judged (A.surroundings self.now.around.now) self.now.file) end.now)))) }
-        ensures broken { OnOk result (broken.new.items ≡ broken.old.items ++ broken_in (slice_end (A.surroundings self.now.around.now) self.now.file wanted (maybe_value self.now.file (option_map (judged (A.surroundings self.now.around.now) self.now.file) end.now)))) }
+        ensures fine { IfOk result (λ is_fine. is_fine ≡ all_fine (slice_end (A.surroundings self.now.around.now) self.now.file wanted (end_value (A.surroundings self.now.around.now) self.now.file end.now))) }
+        ensures nodes { OnOk result (infos.new.items ≡ infos.old.items ++ nodes_in (slice_end (A.surroundings self.now.around.now) self.now.file wanted (end_value (A.surroundings self.now.around.now) self.now.file end.now))) }
+        ensures broken { OnOk result (broken.new.items ≡ broken.old.items ++ broken_in (slice_end (A.surroundings self.now.around.now) self.now.file wanted (end_value (A.surroundings self.now.around.now) self.now.file end.now))) }
     {
         match end {
             None => Ok(true),
@@ -1253,11 +1275,11 @@ impl<
         broken: &mut Vec<Refusal>,
     ) -> Result<IndexSeen, OutOfMemory>
         requires { Judges A.surroundings self.now.room (F.pre self.now.inner) (F.post self.now.inner) }
-        ensures fine { IfOk result (λ seen. seen.is_fine ≡ ((slice (A.surroundings self.now.around.now) self.now.file (maybe_value self.now.file (option_map (judged (A.surroundings self.now.around.now) self.now.file) low.now)) (maybe_value self.now.file (option_map (judged (A.surroundings self.now.around.now) self.now.file) high.now))).piece one ends).fine) }
-        ensures slice { IfOk result (λ seen. seen.is_slice ≡ (slice (A.surroundings self.now.around.now) self.now.file (maybe_value self.now.file (option_map (judged (A.surroundings self.now.around.now) self.now.file) low.now)) (maybe_value self.now.file (option_map (judged (A.surroundings self.now.around.now) self.now.file) high.now))).is_slice) }
-        ensures literal { IfOk result (λ seen. seen.literal ≡ (slice (A.surroundings self.now.around.now) self.now.file (maybe_value self.now.file (option_map (judged (A.surroundings self.now.around.now) self.now.file) low.now)) (maybe_value self.now.file (option_map (judged (A.surroundings self.now.around.now) self.now.file) high.now))).literal) }
-        ensures nodes { OnOk result (infos.new.items ≡ infos.old.items ++ ((slice (A.surroundings self.now.around.now) self.now.file (maybe_value self.now.file (option_map (judged (A.surroundings self.now.around.now) self.now.file) low.now)) (maybe_value self.now.file (option_map (judged (A.surroundings self.now.around.now) self.now.file) high.now))).piece one ends).nodes) }
-        ensures broken { OnOk result (broken.new.items ≡ broken.old.items ++ ((slice (A.surroundings self.now.around.now) self.now.file (maybe_value self.now.file (option_map (judged (A.surroundings self.now.around.now) self.now.file) low.now)) (maybe_value self.now.file (option_map (judged (A.surroundings self.now.around.now) self.now.file) high.now))).piece one ends).breaches) }
+        ensures fine { IfOk result (λ seen. seen.is_fine ≡ ((slice (A.surroundings self.now.around.now) self.now.file (end_value (A.surroundings self.now.around.now) self.now.file low.now) (end_value (A.surroundings self.now.around.now) self.now.file high.now)).piece one ends).fine) }
+        ensures slice { IfOk result (λ seen. seen.is_slice ≡ (slice (A.surroundings self.now.around.now) self.now.file (end_value (A.surroundings self.now.around.now) self.now.file low.now) (end_value (A.surroundings self.now.around.now) self.now.file high.now)).is_slice) }
+        ensures literal { IfOk result (λ seen. seen.literal ≡ (slice (A.surroundings self.now.around.now) self.now.file (end_value (A.surroundings self.now.around.now) self.now.file low.now) (end_value (A.surroundings self.now.around.now) self.now.file high.now)).literal) }
+        ensures nodes { OnOk result (infos.new.items ≡ infos.old.items ++ ((slice (A.surroundings self.now.around.now) self.now.file (end_value (A.surroundings self.now.around.now) self.now.file low.now) (end_value (A.surroundings self.now.around.now) self.now.file high.now)).piece one ends).nodes) }
+        ensures broken { OnOk result (broken.new.items ≡ broken.old.items ++ ((slice (A.surroundings self.now.around.now) self.now.file (end_value (A.surroundings self.now.around.now) self.now.file low.now) (end_value (A.surroundings self.now.around.now) self.now.file high.now)).piece one ends).breaches) }
     {
         infos.push(blank())?;
         let low = self.judge_end(ends, low, infos, broken)?;
@@ -1269,8 +1291,29 @@ impl<
         })
     }
 
+    // An index, by its form.
+    fn judge_index_form(
+        &self,
+        one: Option<Ty>,
+        ends: Option<Ty>,
+        index: &Index,
+        infos: &mut Vec<NodeInfo>,
+        broken: &mut Vec<Refusal>,
+    ) -> Result<IndexSeen, OutOfMemory>
+        requires { Judges A.surroundings self.now.room (F.pre self.now.inner) (F.post self.now.inner) }
+        ensures fine { IfOk result (λ seen. seen.is_fine ≡ ((index_level (A.surroundings self.now.around.now) self.now.file (out-Index index.now)).piece one ends).fine) }
+        ensures slice { IfOk result (λ seen. seen.is_slice ≡ (index_level (A.surroundings self.now.around.now) self.now.file (out-Index index.now)).is_slice) }
+        ensures literal { IfOk result (λ seen. seen.literal ≡ (index_level (A.surroundings self.now.around.now) self.now.file (out-Index index.now)).literal) }
+        ensures nodes { OnOk result (infos.new.items ≡ infos.old.items ++ ((index_level (A.surroundings self.now.around.now) self.now.file (out-Index index.now)).piece one ends).nodes) }
+        ensures broken { OnOk result (broken.new.items ≡ broken.old.items ++ ((index_level (A.surroundings self.now.around.now) self.now.file (out-Index index.now)).piece one ends).breaches) }
+    {
+        match index {
+            Index::One(e) => self.judge_one_index(one, ends, e, infos, broken),
+            Index::Slice(_, low, high) => self.judge_slice(one, ends, low, high, infos, broken),
+        }
+    }
+
     // An index: whether it breaks no rule, whether it is a slice, and the literal that it is.
-    #[tactic(auto, unfolding(crate::specs::Expressions::indexed, crate::specs::Expressions::judged))]
     fn judge_index(
         &self,
         one: Option<Ty>,
@@ -1286,10 +1329,7 @@ impl<
         ensures nodes { OnOk result (infos.new.items ≡ infos.old.items ++ ((indexed (A.surroundings self.now.around.now) self.now.file index.now).piece one ends).nodes) }
         ensures broken { OnOk result (broken.new.items ≡ broken.old.items ++ ((indexed (A.surroundings self.now.around.now) self.now.file index.now).piece one ends).breaches) }
     {
-        match index {
-            Index::One(e) => self.judge_one_index(one, ends, e, infos, broken),
-            Index::Slice(_, low, high) => self.judge_slice(one, ends, low, high, infos, broken),
-        }
+        self.judge_index_form(one, ends, index, infos, broken)
     }
 
     // Indexes: whether they break no rule, and how many are slices.
@@ -1483,9 +1523,8 @@ impl<
         }
     }
 
-    // A part behind what stands before it.
-    #[tactic(auto, unfolding(crate::specs::Expressions::part_said, crate::specs::Expressions::judged, crate::specs::Expressions::indexed))]
-    fn judge_part(
+    // A part behind what stands before it, by its form.
+    fn judge_part_form(
         &self,
         part: &Part,
         before: Prefix,
@@ -1494,9 +1533,9 @@ impl<
         broken: &mut Vec<Refusal>,
     ) -> Result<Said, OutOfMemory>
         requires { Judges A.surroundings self.now.room (F.pre self.now.inner) (F.post self.now.inner) }
-        ensures said { IfOk result (λ said. said ≡ ((part_said (A.surroundings self.now.around.now) self.now.file part.now).stage before.said before.at whole).said) }
-        ensures nodes { OnOk result (infos.new.items ≡ infos.old.items ++ ((part_said (A.surroundings self.now.around.now) self.now.file part.now).stage before.said before.at whole).nodes) }
-        ensures broken { OnOk result (broken.new.items ≡ broken.old.items ++ ((part_said (A.surroundings self.now.around.now) self.now.file part.now).stage before.said before.at whole).breaches) }
+        ensures said { IfOk result (λ said. said ≡ (part_level (A.surroundings self.now.around.now) self.now.file (out-Part part.now) before.said before.at whole).said) }
+        ensures nodes { OnOk result (infos.new.items ≡ infos.old.items ++ (part_level (A.surroundings self.now.around.now) self.now.file (out-Part part.now) before.said before.at whole).nodes) }
+        ensures broken { OnOk result (broken.new.items ≡ broken.old.items ++ (part_level (A.surroundings self.now.around.now) self.now.file (out-Part part.now) before.said before.at whole).breaches) }
     {
         match part {
             Part::Attribute(_, name) => judge_attribute(
@@ -1525,6 +1564,23 @@ impl<
                 broken,
             ),
         }
+    }
+
+    // A part behind what stands before it.
+    fn judge_part(
+        &self,
+        part: &Part,
+        before: Prefix,
+        whole: u32,
+        infos: &mut Vec<NodeInfo>,
+        broken: &mut Vec<Refusal>,
+    ) -> Result<Said, OutOfMemory>
+        requires { Judges A.surroundings self.now.room (F.pre self.now.inner) (F.post self.now.inner) }
+        ensures said { IfOk result (λ said. said ≡ ((part_said (A.surroundings self.now.around.now) self.now.file part.now).stage before.said before.at whole).said) }
+        ensures nodes { OnOk result (infos.new.items ≡ infos.old.items ++ ((part_said (A.surroundings self.now.around.now) self.now.file part.now).stage before.said before.at whole).nodes) }
+        ensures broken { OnOk result (broken.new.items ≡ broken.old.items ++ ((part_said (A.surroundings self.now.around.now) self.now.file part.now).stage before.said before.at whole).breaches) }
+    {
+        self.judge_part_form(part, before, whole, infos, broken)
     }
 
     // Parts from left to right.

@@ -2,7 +2,7 @@ use Rattle.std.proofs.Common.{None, rules}
 use Rattle.expr_types.specs.Expressions.{judged, value_of}
 use Rattle.expr_types.specs.Said.{written}
 use Rattle.expr_types.proofs.Fills.{filled}
-use Rattle.expr_types.proofs.walk.Walk.judge_meeting.Goals as goal
+use Rattle.expr_types.proofs.walk.Walk.judge_wanted.Goals as goal
 
 pub returns-clause-nodes : goal.returns-clause-nodes
 returns-clause-nodes g c =
