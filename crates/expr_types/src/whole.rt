@@ -29,8 +29,8 @@ fn note_all(found: &[Refusal], least: Option<Refusal>) -> Option<Refusal>
     ensures { IsLeastWith least found.now result }
 {
     let mut least = least;
-    for next in found {
-        least = note_next(least, next);
+    for refusal in found {
+        least = note_next(least, refusal);
     }
     least
 }

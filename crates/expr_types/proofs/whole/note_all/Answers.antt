@@ -5,16 +5,16 @@ use Rattle.first_breach.proofs.Joins.{with-both, with-none}
 use Rattle.first_breach.proofs.Loops.{ended, next}
 use Rattle.expr_types.proofs.whole.note_all.Goals as goal
 
-pub loop-next-init : goal.loop-next-init
-loop-next-init c = λ last it. it
+pub loop-refusal-init : goal.loop-refusal-init
+loop-refusal-init c = λ last it. it
 
-pub loop-next-preserved : goal.loop-next-preserved
-loop-next-preserved c = λ last it.
-    c.loop-next.invariant last
-    (next (λ (rs : List Refusal). IsLeastWith c.loop-next.least rs last) c.args.found.now c.loop-next.next-index c.next-item.result c.loop-next-test.true c.next-item.is
-    (with-both _ _ _ (c.next-item.result ∷ []) _ c.note_next-least.ensures it))
+pub loop-refusal-preserved : goal.loop-refusal-preserved
+loop-refusal-preserved c = λ last it.
+    c.loop-refusal.invariant last
+    (next (λ (rs : List Refusal). IsLeastWith c.loop-refusal.least rs last) c.args.found.now c.loop-refusal.refusal-index c.refusal-item.result c.loop-refusal-test.true c.refusal-item.is
+    (with-both _ _ _ (c.refusal-item.result ∷ []) _ c.note_next-least.ensures it))
 
 pub returns : goal.returns
 returns c =
-    c.loop-next.invariant c.loop-next.least
-    (ended (λ (rs : List Refusal). IsLeastWith c.loop-next.least rs c.loop-next.least) c.args.found.now c.loop-next.next-index c.loop-next-test.false (with-none _))
+    c.loop-refusal.invariant c.loop-refusal.least
+    (ended (λ (rs : List Refusal). IsLeastWith c.loop-refusal.least rs c.loop-refusal.least) c.args.found.now c.loop-refusal.refusal-index c.loop-refusal-test.false (with-none _))

@@ -3,5 +3,5 @@ use Rattle.cy_base.specs.declared.place.Refusal.{Refusal}
 use Rattle.first_breach.specs.First.{IsLeastWith}
 use Rattle.expr_types.proofs.whole.note_all.Given as goal
 
-abbrev pub invariant-loop-next : goal.invariant-loop-next
-invariant-loop-next l = (last : Option Refusal) → IsLeastWith l.least (drop l.next-index l.found) last → IsLeastWith l.initial.least l.found last
+abbrev pub invariant-loop-refusal : goal.invariant-loop-refusal
+invariant-loop-refusal l = (last : Option Refusal) → IsLeastWith l.least (drop l.refusal-index l.found) last → IsLeastWith l.initial.least l.found last
