@@ -1,5 +1,5 @@
 -- Whether the first of some parts is a call.
-use Rattle.std.proofs.Common.{◌≡◌, ℕ, ◌<◌, ◌≤◌, Bool, List, [], ◌∷◌, length, get_or, map, ap, sym, ◌∙◌, arith}
+use Rattle.std.proofs.Common.{◌≡◌, ◌≤◌, Bool, List, [], ◌∷◌, length, get_or, map, ap, sym, ◌∙◌, arith}
 use Rattle.cy_tree.specs.declared.expr.Part.{Part}
 use Rattle.expr_types.specs.Parts.{PartSaid, first_is_call}
 

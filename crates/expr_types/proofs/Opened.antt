@@ -9,7 +9,6 @@ use Rattle.cy_around.specs.Surroundings.{Surroundings}
 use Rattle.expr_types.specs.Expressions.{Judging, expr_step, index_step, indexed, judged, part_said, part_step}
 use Rattle.expr_types.specs.Levels.{expr_level, index_level, part_level}
 use Rattle.expr_types.specs.Parts.{Indexed, PartSaid}
-use Rattle.expr_types.specs.Said.{Judged}
 
 expr-step : (S : Surroundings) (file : ℕ) (l : Expr-F Expr Index Part) (c : Bool)
     → expr_step S file (map-Expr Expr Index Part Judging Indexed PartSaid (judged S file) (indexed S file) (part_said S file) l) c ≡ expr_level S file l c

@@ -11,7 +11,6 @@ use Rattle.cy_tree.specs.declared.ty.Coercion.TheVariants as coercion
 use Rattle.cy_tree.specs.declared.ty.Ty.{Ty}
 use Rattle.cy_tree.specs.declared.ty.Ty.TheVariants as ty
 use Rattle.cy_tree.specs.declared.ty.ViewTy.{ViewTy}
-use Rattle.cy_tree.specs.declared.types.Ident.{Ident}
 use Rattle.cy_around.specs.Surroundings.{Surroundings}
 use Rattle.expr_types.specs.declared.said.Arithmetic.TheVariants.{Usual, Divides}
 use Rattle.expr_types.specs.declared.said.Said.TheVariants.{Value, Literal, Function}

@@ -1,5 +1,5 @@
 -- What the code gives at a part of an expression, as it meets it. The project's own.
-use Rattle.std.specs.Prelude.{ℕ, Bool, List, [], ◌∷◌, ◌++◌, map, length, slice_set, Option, Some, None}
+use Rattle.std.specs.Prelude.{ℕ, List, [], ◌∷◌, ◌++◌, map, length, slice_set, Option, Some, None}
 use Rattle.std.specs.List.{flat_map}
 use Rattle.cy_tree.specs.declared.expr.Expr.{Expr}
 use Rattle.cy_tree.specs.declared.expr.ShiftOp.{ShiftOp}

@@ -1,8 +1,9 @@
-use Rattle.std.proofs.Common.{List, [], ◌∷◌}
+use Rattle.std.proofs.Common.{List}
 use Rattle.cy_base.specs.declared.place.Refusal.{Refusal}
 use Rattle.first_breach.specs.First.{IsLeastWith}
-use Rattle.first_breach.proofs.Joins.{with-both, with-none}
-use Rattle.first_breach.proofs.Loops.{ended, next}
+use Rattle.first_breach.proofs.Joins.{with-none}
+use Rattle.first_breach.proofs.Loops.{ended}
+use Rattle.expr_types.proofs.Noted.{noted-next}
 use Rattle.expr_types.proofs.whole.note_all.Goals as goal
 
 pub loop-refusal-init : goal.loop-refusal-init
@@ -11,8 +12,7 @@ loop-refusal-init c = λ last it. it
 pub loop-refusal-preserved : goal.loop-refusal-preserved
 loop-refusal-preserved c = λ last it.
     c.loop-refusal.invariant last
-    (next (λ (rs : List Refusal). IsLeastWith c.loop-refusal.least rs last) c.args.found.now c.loop-refusal.refusal-index c.refusal-item.result c.loop-refusal-test.true c.refusal-item.is
-    (with-both _ _ _ (c.refusal-item.result ∷ []) _ c.note_next-least.ensures it))
+    (noted-next c.args.found.now c.loop-refusal.refusal-index _ c.loop-refusal.least c.note_next-least.result last c.loop-refusal-test.true c.note_next-least.ensures it)
 
 pub returns : goal.returns
 returns c =

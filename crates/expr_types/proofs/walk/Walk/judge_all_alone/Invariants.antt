@@ -1,4 +1,4 @@
-use Rattle.std.proofs.Common.{◌≡◌, ◌++◌, ◌&&◌, ◌+◌, drop}
+use Rattle.std.proofs.Common.{◌≡◌, ◌++◌, ◌&&◌, drop}
 use Rattle.expr_types.specs.Said.{all_fine, broken_in, nodes_in}
 use Rattle.expr_types.specs.Walk.{alone_pieces}
 use Rattle.expr_types.proofs.walk.Walk.judge_all_alone.Given as goal

@@ -1,4 +1,4 @@
-use Rattle.std.proofs.Common.{◌≡◌, ◌++◌, ◌+◌, drop}
+use Rattle.std.proofs.Common.{◌≡◌, ◌++◌, drop}
 use Rattle.expr_types.specs.Expressions.{values_of}
 use Rattle.expr_types.specs.Joined.{all_breaches, tolds}
 use Rattle.expr_types.specs.Walk.{all_judged, seens_from, unfilled}

@@ -1,4 +1,4 @@
-use Rattle.std.proofs.Common.{◌≡◌, ◌++◌, ◌+◌, drop}
+use Rattle.std.proofs.Common.{◌≡◌, ◌++◌, drop}
 use Rattle.expr_types.specs.Parts.{parts_broken, parts_nodes, parts_prefix}
 use Rattle.expr_types.specs.Walk.{all_parts}
 use Rattle.expr_types.proofs.walk.Walk.judge_parts.Given as goal

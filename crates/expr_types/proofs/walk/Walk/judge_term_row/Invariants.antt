@@ -1,4 +1,4 @@
-use Rattle.std.proofs.Common.{◌≡◌, ◌++◌, ◌+◌, drop}
+use Rattle.std.proofs.Common.{◌≡◌, ◌++◌, drop}
 use Rattle.expr_types.specs.Operators.{first_right, row_broken, row_nodes, row_said}
 use Rattle.expr_types.specs.Walk.{first_or, term_row}
 use Rattle.expr_types.proofs.walk.Walk.judge_term_row.Given as goal

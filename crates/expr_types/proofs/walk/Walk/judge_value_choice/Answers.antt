@@ -1,5 +1,5 @@
 use Rattle.std.proofs.Common.{rules}
-use Rattle.expr_types.specs.Expressions.{judged, values_of}
+use Rattle.expr_types.specs.Expressions.{values_of}
 use Rattle.expr_types.specs.Joined.{one_type, tolds}
 use Rattle.expr_types.specs.Walk.{all_judged}
 use Rattle.expr_types.proofs.walk.Walk.judge_value_choice.Goals as goal
