@@ -13,7 +13,10 @@ use cy_base::OutOfMemory;
 pub fn store_field(state: &mut State, number: u32, class: Numbered, field: u32, value: Value)
     ensures { state.new ≡ with_instances (change_at (stored_in class field value) number state.old.shared.instances) state.old }
 {
-    state.shared.instances.store(number as usize, class, field, value);
+    state
+        .shared
+        .instances
+        .store(number as usize, class, field, value);
 }
 
 /// An instance gets a method table.
