@@ -129,7 +129,7 @@ fn values_are_copied(rt: HostRuntime) -> Result<(), Fail> {
         allocation: Allocation::Heap,
         alive: true,
         table: None,
-        parts: Items::new(rt.alloc()),
+        parts: Parts::from_vec(Vec::new(rt.alloc())),
     };
     assert!(rt; copied_instance(rt.alloc(), &instance)?.alive);
     Ok(())
