@@ -3,5 +3,5 @@ mod Finds
 mod NameSteps
 mod PartSteps
 mod Slots
-mod Tests
+mod Passing
 mod Turned
