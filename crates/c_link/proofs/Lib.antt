@@ -1,7 +1,9 @@
 mod DeallocSteps
 mod Finds
+mod FunctionTests
 mod NameSteps
+mod NumberSteps
 mod PartSteps
+mod Passing
 mod Slots
-mod Tests
 mod Turned

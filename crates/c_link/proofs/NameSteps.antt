@@ -8,7 +8,7 @@ use Rattle.c_value.specs.Names.{same_number}
 use Rattle.c_state.specs.Linked.{as_methods}
 use Rattle.c_state.specs.Statements.{name_with, row_with}
 
-or_name : Option (List ℕ) → Option (List ℕ) → Option (List ℕ)
+abbrev or_name : Option (List ℕ) → Option (List ℕ) → Option (List ℕ)
 or_name None other = other
 or_name (Some n) other = Some n
 

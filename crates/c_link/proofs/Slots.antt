@@ -1,5 +1,5 @@
 -- Functions of a method table by their numbers, and modules by their names.
-use Rattle.std.proofs.Common.{◌≡◌, ℕ, zero, suc, ◌-◌, ◌<◌, ◌≤◌, Bool, true, false, List, [], ◌∷◌, ◌++◌, Option, Some, None, refl, sym, ap, ◌∙◌, length, drop, slice_get, if◌then◌else◌, arith}
+use Rattle.std.proofs.Common.{◌≡◌, ℕ, zero, suc, ◌-◌, ◌<◌, ◌≤◌, Bool, true, false, List, [], ◌∷◌, ◌++◌, Some, refl, sym, ap, ◌∙◌, length, drop, slice_get, if◌then◌else◌, arith}
 use Rattle.std.specs.List.{flat_map}
 use Rattle.c_tree.specs.declared.item.CFile.{CFile}
 use Rattle.c_state.specs.Linked.{defines_it, module_from}

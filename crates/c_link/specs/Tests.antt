@@ -1,5 +1,5 @@
 -- Which items define a name: the tests of the definitions by what is looked for. The project's own.
-use Rattle.std.specs.Prelude.{Bool, true, false, Option, Some, None}
+use Rattle.std.specs.Prelude.{Bool, false, Option, None}
 use Rattle.c_tree.specs.declared.name.FunctionName.{FunctionName}
 use Rattle.c_tree.specs.declared.item.CHead.{CHead}
 use Rattle.c_tree.specs.declared.item.CItem.{CItem}

@@ -1,6 +1,6 @@
 //! Which items define a name.
 ghost use Rattle.std.specs.Prelude.{◌≡◌};
-ghost use Rattle.c_state.specs.Linked.{defines_function, defines_mapping, defines_methods, defines_module, defines_properties, defines_sequence, defines_type, if_same, is_initializer, is_open, is_own, is_static, is_struct, is_table, is_table_struct};
+ghost use Rattle.c_state.specs.Linked.{defines_function, defines_mapping, defines_methods, defines_module, defines_properties, defines_sequence, defines_type, if_same, is_initializer, is_initializer_name, is_open, is_own, is_static, is_struct, is_table, is_table_struct};
 ghost use Rattle.c_link.specs.Tests.{defines, head_passes, heads, is_initializer_head, names, passes};
 
 use crate::item::{Kept, LinkedItem};
@@ -73,8 +73,15 @@ fn heads(head: &CHead, name: &FunctionName) -> bool
     }
 }
 
+/// Whether a name is that of an initialisation function, which has bytes in it.
+pub fn is_initializer_name(name: &FunctionName) -> bool
+    ensures { result ≡ is_initializer_name name.now }
+{
+    matches!(name, FunctionName::Initializer(_))
+}
+
 /// Whether a function of a name is `static`.
-fn is_static(name: &FunctionName) -> bool
+pub fn is_static(name: &FunctionName) -> bool
     ensures { result ≡ is_static name.now }
 {
     !matches!(

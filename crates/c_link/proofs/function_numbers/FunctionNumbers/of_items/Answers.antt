@@ -1,0 +1,23 @@
+use Rattle.std.proofs.Common.{◌≡◌, ℕ, suc, ◌-◌, length, drop, subst, sym, refl, ◌∙◌, arith}
+use Rattle.std.proofs.lemmas.Option.{slice_get_read}
+use Rattle.c_tree.specs.declared.item.CItem.{CItem}
+use Rattle.c_link.specs.FunctionNumbers.{AreFunctionsFrom, IsItemNoted, has_name}
+use Rattle.c_link.proofs.NumberSteps.{first_from-end, first_from-noted}
+use Rattle.c_link.proofs.function_numbers.FunctionNumbers.of_items.Goals as goal
+
+pub loop-at-init : goal.loop-at-init
+loop-at-init c = λ x. c.none-numbers.ensures x ∙ first_from-end (has_name x) c.args.items.now c.args.count c.requires.whole
+
+pub loop-at-preserved : goal.loop-at-preserved
+loop-at-preserved c = λ x.
+    let items = c.args.items.now in
+    let next : c.loop-at.at ≡ suc (c.loop-at.at - 1) = omega (arith, c.loop-at-test.true) in
+    c.in_ok-note_item.ensures x
+    ∙ first_from-noted (has_name x) items (c.loop-at.at - 1) c.loop-at.at c.index-items-at.result _ next
+    (slice_get_read items (length items) (c.loop-at.at - 1) c.index-items-at.result refl (omega (arith, c.loop-at-test.true, c.loop-at.auto.at, c.requires.whole)) c.index-items-at.is)
+    (c.loop-at.invariant x)
+
+pub returns : goal.returns
+returns c =
+    let done : c.loop-at.at ≡ 0 = omega (arith, c.loop-at-test.false) in
+    subst (λ (n : ℕ). AreFunctionsFrom n (drop n c.args.items.now) c.loop-at.numbers) done c.loop-at.invariant
