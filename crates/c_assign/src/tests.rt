@@ -105,7 +105,15 @@ fn values_are_assigned(rt: HostRuntime) -> Result<(), Fail> {
         reading: &three,
     };
     assert!(rt; does(assign(rt.alloc(), &state, &frame, VARIABLE, from)?));
-    let sum = binary(rt.alloc(), &state, &frame, VARIABLE, from, BinaryOp::Add, from)?;
+    let sum = binary(
+        rt.alloc(),
+        &state,
+        &frame,
+        VARIABLE,
+        from,
+        BinaryOp::Add,
+        from,
+    )?;
     assert!(rt; does(sum));
     assert!(rt; does(invert(rt.alloc(), &state, &frame, VARIABLE, from)?));
     assert!(rt; does(cast(rt.alloc(), &state, &frame, VARIABLE, CType::Int, from)?));

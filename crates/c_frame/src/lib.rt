@@ -3,8 +3,14 @@
 
 mod cells;
 mod code;
+mod fixed;
 mod function;
+mod jumps;
+mod numbers;
+mod places;
 mod spots;
+#[cfg(test)]
+mod tests;
 
 pub use cells::Cells;
 pub use code::Code;

@@ -29,6 +29,6 @@ pub give_place-unless : (c : State) (own : List Obj) (x : Variable) (v : Value) 
     → give_place c own x v d s ≡ unless (place_fault c (own ++ d.gains) v s) (Does (moving x v s.value d))
 give_place-unless c own x v d s =
     three (may_store s && not (is_tuple v)) (may_write c s || not c.strict) (owns_moved (own ++ d.gains) v || not c.strict)
-        fault.Stuck fault.Unlocked fault.Unheld (Does (moving x v s.value d))
+    fault.Stuck fault.Unlocked fault.Unheld (Does (moving x v s.value d))
 
 pub ruleset stores = (give_place-unless)

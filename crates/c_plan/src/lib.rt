@@ -12,9 +12,7 @@ mod targets;
 #[cfg(test)]
 mod tests;
 
-pub use globals::{
-    lends, lends_each, may_read, may_read_each,
-};
+pub use globals::{lends, lends_each, may_read, may_read_each};
 pub use holding::{all_held, held, in_constants};
 pub use instances::{field_value, instance_at, instance_of, part_of};
 pub use reads::{

@@ -1,9 +1,8 @@
 use crate::{
-    all_held, argument_at, class_object_of, definition_reading, field_value,
-    find_spot, give, give_by, give_to, give_to_by, held, instance_at, instance_of, is_constant,
-    lends, lends_each, literal_reading, may_read, may_read_each, may_store_to, may_write_to,
-    owns_moved, part_of, receives, result_may_store, takes, target_kind, type_address,
-    variable_reading,
+    all_held, argument_at, class_object_of, definition_reading, field_value, find_spot, give,
+    give_by, give_to, give_to_by, held, instance_at, instance_of, is_constant, lends, lends_each,
+    literal_reading, may_read, may_read_each, may_store_to, may_write_to, owns_moved, part_of,
+    receives, result_may_store, takes, target_kind, type_address, variable_reading,
 };
 use api_model::{Allocation, Obj};
 use c_frame::{Cells, Code, LinkedFunction, Spots};
@@ -172,7 +171,14 @@ fn values_go_to_variables(rt: HostRuntime) -> Result<(), Fail> {
     let change = nothing(rt.alloc());
     let _planned = give(rt.alloc(), &state, &frame, local, Value::Number(4), change)?;
     let change = nothing(rt.alloc());
-    let _planned = give_to(rt.alloc(), &state, &frame, Some(GLOBAL), Value::Null, change)?;
+    let _planned = give_to(
+        rt.alloc(),
+        &state,
+        &frame,
+        Some(GLOBAL),
+        Value::Null,
+        change,
+    )?;
     let change = nothing(rt.alloc());
     let own = [].as_slice();
     let _planned = give_by(rt.alloc(), &state, 0, own, GLOBAL, Value::Null, change)?;

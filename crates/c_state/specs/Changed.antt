@@ -1,14 +1,12 @@
 -- The state after a change.
-use Rattle.std.specs.Prelude.{ℕ, suc, Bool, true, false, List, [], ◌∷◌, ◌++◌, Option, Some, None, slice_get, unwrap_or}
+use Rattle.std.specs.Prelude.{ℕ, suc, Bool, true, false, List, [], ◌∷◌, ◌++◌, Option, Some, None, unwrap_or}
 use Rattle.api_model.specs.declared.event.Event.{Event}
 use Rattle.api_model.specs.declared.object.Obj.{Obj}
-use Rattle.c_tree.specs.declared.name.Numbered.{Numbered}
 use Rattle.c_tree.specs.declared.name.Variable.{Variable}
 use Rattle.c_tree.specs.declared.name.Variable.TheVariants as variable
 use Rattle.c_tree.specs.declared.item.CFunction.{CFunction}
 use Rattle.c_tree.specs.declared.item.CFile.{CFile}
 use Rattle.c_value.specs.declared.value.Value.{Value}
-use Rattle.c_value.specs.declared.space.Instance.{Instance}
 use Rattle.c_value.specs.declared.space.Course.{Course}
 use Rattle.c_value.specs.declared.frame.Doing.{Doing}
 use Rattle.c_value.specs.declared.change.Change.{Change}
@@ -28,11 +26,12 @@ use Rattle.c_value.specs.declared.frame.Doing.TheVariants as doing
 use Rattle.c_state.specs.Linked.{function_at}
 use Rattle.c_ledger.specs.Ledger.{entered, left, without_loans}
 use Rattle.c_ledger.specs.OfNewest.{gain_all, lose_all, owned, owning, loan_all}
-use Rattle.c_state.specs.State.{with_shared, with_frames, with_ledger, with_error, with_remembered, with_ensured, with_taken, with_course, with_lock, with_instances, with_views, set_begun, set_failed, in_frame, set_spot, set_instance, stored_in, new_instance}
+use Rattle.c_state.specs.State.{with_shared, with_frames, with_ledger, with_error, with_remembered, with_ensured, with_taken, with_course, with_lock, with_instances, with_views, set_begun, set_failed, in_frame, set_spot, new_instance}
 use Rattle.c_state.specs.Calls.{frame_of}
 use Rattle.c_state.specs.declared.state.Frame.{Frame}
 use Rattle.c_state.specs.declared.state.State.{State}
 use Rattle.c_frame.specs.Cells.{put}
+use Rattle.c_space.specs.Instances.{change_at, freed, stored_in, with_table}
 use Rattle.c_frame.specs.Lines.{after_label}
 
 -- ---- one part after the other
@@ -83,24 +82,11 @@ remember remembering.Stays c = c
 remember (remembering.Adds l) c = with_ensured (suc c.thread.ensured) (with_remembered (l ∷ c.thread.remembered) c)
 remember remembering.Forgets c = with_remembered (forget c.thread.remembered) c
 
-abbrev pub change_instance : (Instance → Instance) → ℕ → Option Instance → State → State
-change_instance change k None c = c
-change_instance change k (Some i) c = set_instance k (change i) c
-
-abbrev pub with_field : Numbered → ℕ → Value → Instance → Instance
-with_field class j v i = stored_in i class j v
-
-abbrev pub with_table : Numbered → Instance → Instance
-with_table class i = record i { table = Some class }
-
-abbrev pub freed : Instance → Instance
-freed i = record i { alive = false }
-
 abbrev pub change_space : List CFile → SpaceChange → State → State
 change_space files space.Stays c = c
-change_space files (space.Field k class j v) c = change_instance (with_field class j v) k (slice_get c.shared.instances k) c
-change_space files (space.Table k class) c = change_instance (with_table class) k (slice_get c.shared.instances k) c
-change_space files (space.Freed k) c = change_instance freed k (slice_get c.shared.instances k) c
+change_space files (space.Field k class j v) c = with_instances (change_at (stored_in class j v) k c.shared.instances) c
+change_space files (space.Table k class) c = with_instances (change_at (with_table class) k c.shared.instances) c
+change_space files (space.Freed k) c = with_instances (change_at freed k c.shared.instances) c
 change_space files (space.Made t a) c = with_instances (c.shared.instances ++ new_instance files t a ∷ []) c
 change_space files (space.Viewed i) c = with_views (c.shared.views ++ i ∷ []) c
 

@@ -1,5 +1,5 @@
 -- The state of the machine: what several threads share, and what is one thread's own. The project's own.
-use Rattle.std.specs.Prelude.{ℕ, zero, suc, Bool, true, false, ◌&&◌, ◌||◌, List, [], ◌∷◌, Option, Some, None, map, slice_get, slice_set, slice_index_or, if◌then◌else◌}
+use Rattle.std.specs.Prelude.{ℕ, zero, suc, Bool, true, false, ◌&&◌, ◌||◌, List, [], ◌∷◌, Option, Some, None, map, slice_get, if◌then◌else◌}
 use Rattle.std.specs.List.{list_any}
 use Rattle.api_model.specs.declared.object.Obj.{Obj}
 use Rattle.api_model.specs.declared.object.Obj.TheVariants as obj
@@ -27,16 +27,15 @@ use Rattle.c_value.specs.declared.space.Instance.{Instance}
 use Rattle.c_value.specs.declared.space.Course.{Course}
 use Rattle.c_value.specs.declared.space.Course.TheVariants as course
 use Rattle.c_value.specs.declared.change.Remembered.{Remembered}
-use Rattle.c_value.specs.Names.{same_number}
 use Rattle.c_state.specs.Linked.{item_count, struct_of, type_at}
-use Rattle.c_value.specs.Values.{kind_of, converted, zero_of, objects_in, has_objects}
+use Rattle.c_value.specs.Values.{kind_of, zero_of, objects_in, has_objects}
 use Rattle.c_ledger.specs.Ledger.{has}
 use Rattle.c_state.specs.declared.state.Frame.{Frame}
 use Rattle.c_state.specs.declared.state.Shared.{Shared}
 use Rattle.c_state.specs.declared.state.State.{State}
 use Rattle.c_state.specs.declared.state.Thread.{Thread}
 use Rattle.c_frame.specs.Cells.{put}
-use Rattle.c_frame.specs.Spots.{put_spot}
+use Rattle.c_space.specs.Places.{put_at, spots_of}
 use Rattle.c_ledger.specs.Ledger.{Accounts, empty}
 use Rattle.c_ledger.specs.OfNewest.{owned, lent}
 
@@ -153,10 +152,10 @@ is_module_variable _ k = false
 
 -- the places of a file, by its number
 abbrev pub spots_at : State → ℕ → List Spot
-spots_at c k = slice_index_or c.shared.places k []
+spots_at c k = spots_of c.shared.places k
 
 abbrev pub set_spot : ℕ → Place → Value → State → State
-set_spot k p v c = with_places (slice_set c.shared.places k (put_spot (spots_at c k) p v)) c
+set_spot k p v c = with_places (put_at k p v c.shared.places) c
 
 -- ---- instances
 
@@ -174,27 +173,6 @@ instance_at c k = still_there (slice_get c.shared.instances k)
 abbrev pub instance_of : State → Value → Option Instance
 instance_of c (value.Object (obj.Inst k)) = instance_at c k
 instance_of c _ = None
-
-abbrev pub set_instance : ℕ → Instance → State → State
-set_instance k i c = with_instances (slice_set c.shared.instances k i) c
-
--- what an instance holds of the struct of a class
-abbrev pub part_of : List Part → Numbered → Option (List (Kind × Value))
-part_of [] class = None
-part_of (p ∷ ps) class = if same_number p.class class then Some p.fields else part_of ps class
-
-abbrev pub put_field : List (Kind × Value) → ℕ → Value → List (Kind × Value)
-put_field [] j v = []
-put_field ((k, old) ∷ fs) zero v = (k, converted k v) ∷ fs
-put_field (f ∷ fs) (suc j) v = f ∷ put_field fs j v
-
-abbrev pub put_part : List Part → Numbered → ℕ → Value → List Part
-put_part [] class j v = []
-put_part (p ∷ ps) class j v =
-    if same_number p.class class then record p { fields = put_field p.fields j v } ∷ ps else p ∷ put_part ps class j v
-
-abbrev pub stored_in : Instance → Numbered → ℕ → Value → Instance
-stored_in i class j v = record i { parts = put_part i.parts class j v }
 
 abbrev pub first_field : CType → Kind × Value
 first_field t = (kind_of t, zero_of (kind_of t))

@@ -17,7 +17,8 @@ use Rattle.c_value.specs.declared.space.Instance.{Instance}
 use Rattle.c_state.specs.Linked.{struct_of}
 use Rattle.c_value.specs.Values.{kind_of, objects_in}
 use Rattle.c_ledger.specs.OfNewest.{has_all, owned}
-use Rattle.c_state.specs.State.{is_constant, is_module_variable, spots_at, instance_of, part_of}
+use Rattle.c_state.specs.State.{is_constant, is_module_variable, spots_at, instance_of}
+use Rattle.c_value.specs.Parts.{part_of}
 use Rattle.c_value.specs.declared.change.Planned.{Planned}
 use Rattle.c_value.specs.declared.change.Planned.TheVariants.{Does}
 use Rattle.c_value.specs.declared.change.Change.{Change}

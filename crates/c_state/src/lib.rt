@@ -6,6 +6,8 @@ mod arguments;
 mod names;
 mod planned;
 mod state;
+#[cfg(test)]
+mod tests;
 
 pub use arguments::is_tuple;
 pub use names::class_named;

@@ -1,7 +1,8 @@
 use api_model::Obj;
-use c_frame::{Cells, Code, LinkedFunction, Spots};
+use c_frame::{Cells, Code, LinkedFunction};
 use c_ledger::Ledger;
-use c_value::{Course, Doing, Entered, Instance, Remembered, ViewInfo};
+use c_space::{Instances, Places};
+use c_value::{Course, Doing, Entered, Remembered, ViewInfo};
 use sqlite_items::Items;
 use std::collections::LinkedList;
 
@@ -21,9 +22,9 @@ pub struct Frame {
 /// file behind the one whose initialisation began last, and whether one has failed; whether the lock is held.
 #[derive(Drop)]
 pub struct Shared {
-    pub instances: Items<Instance>,
+    pub instances: Instances,
     pub views: Items<ViewInfo>,
-    pub places: Items<Spots>,
+    pub places: Places,
     pub begun: usize,
     pub failed: bool,
     pub lock: bool,

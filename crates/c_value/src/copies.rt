@@ -1,7 +1,7 @@
 //! Copies.
 ghost use Rattle.std.specs.Prelude.{◌≡◌, IfOk};
 
-use crate::{Instance, Kind, Memory, Part, Reading, Value, ViewValue};
+use crate::{Instance, Kind, Memory, Part, Parts, Reading, Value, ViewValue};
 use api_model::Obj;
 use c_token::Bytes;
 use cy_base::OutOfMemory;
@@ -88,16 +88,16 @@ fn copied_fields(
     Ok(copies)
 }
 
-fn copied_parts(alloc: Global, parts: &[Part]) -> Result<Items<Part>, OutOfMemory>
+fn copied_parts(alloc: Global, parts: &[Part]) -> Result<Parts, OutOfMemory>
     ensures { IfOk result (λ r. r ≡ parts.now) }
 {
-    let mut copies = Items::new(alloc);
+    let mut copies = Vec::new(alloc);
     for part in parts {
         let class = part.class;
         let fields = copied_fields(alloc, part.fields.as_slice())?;
         copies.push(Part { class, fields })?;
     }
-    Ok(copies)
+    Ok(Parts::from_vec(copies))
 }
 
 pub fn copied_instance(alloc: Global, instance: &Instance) -> Result<Instance, OutOfMemory>

@@ -6,6 +6,7 @@ mod api;
 mod change;
 mod copies;
 mod frame;
+mod held;
 mod kind;
 mod kinds;
 mod names;
@@ -26,6 +27,7 @@ pub use change::{
 };
 pub use copies::{copied_bytes, copied_instance, copied_objects, copied_reading, copied_value};
 pub use frame::{Cell, Doing, Entered, Making};
+pub use held::Parts;
 pub use kind::Kind;
 pub use kinds::{
     are_pointers, converts, has_objects, initial_value, is_number, is_object, is_pointer, is_view,

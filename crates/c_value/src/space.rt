@@ -1,4 +1,4 @@
-use crate::{ItemPlace, Kind, Value};
+use crate::{ItemPlace, Kind, Parts, Value};
 use api_model::Allocation;
 use c_tree::{Numbered, Place};
 use sqlite_items::Items;
@@ -27,7 +27,7 @@ pub struct Instance {
     pub allocation: Allocation,
     pub alive: bool,
     pub table: Option<Numbered>,
-    pub parts: Items<Part>,
+    pub parts: Parts,
 }
 
 /// Whether a run goes on, or `end` or `stop` was made.

@@ -1,5 +1,5 @@
 use crate::{
-    Buffer, Extents, Instance, ItemPlace, Kind, Memory, Reading, Value, ViewInfo, ViewValue,
+    Buffer, Extents, Instance, ItemPlace, Kind, Memory, Parts, Reading, Value, ViewInfo, ViewValue,
     all_set, are_pointers, as_memory, c_string, converted, converts, copied_bytes, copied_instance,
     copied_objects, copied_reading, copied_value, extent_at, extents_of, fits, has_objects,
     initial_value, is_null, is_number, is_object, is_pointer, is_set, is_view, is_view_set,
@@ -129,7 +129,7 @@ fn values_are_copied(rt: HostRuntime) -> Result<(), Fail> {
         allocation: Allocation::Heap,
         alive: true,
         table: None,
-        parts: Items::new(rt.alloc()),
+        parts: Parts::from_vec(Vec::new(rt.alloc())),
     };
     assert!(rt; copied_instance(rt.alloc(), &instance)?.alive);
     Ok(())

@@ -1,0 +1,7 @@
+mod DeallocSteps
+mod Finds
+mod NameSteps
+mod PartSteps
+mod Slots
+mod Tests
+mod Turned
