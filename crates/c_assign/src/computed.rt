@@ -1,7 +1,7 @@
 //! What operators give (ISO/IEC 9899:2011 6.5.3.3 to 6.5.12).
 ghost use Rattle.std.specs.Prelude.{◌≡◌, IfOk};
 ghost use Rattle.c_arith.specs.Numbers.{IsNumber};
-ghost use Rattle.c_assign.specs.Numbers.{shown};
+ghost use Rattle.c_assign.specs.Numbers.{shown, truth_number};
 ghost use Rattle.c_state.specs.Assignments.{both_set, by_equality, cast_value, computed_by, computed_of, inverse_of, is_equality, is_true, may_cast, may_compute, number, result_of, truth};
 ghost use Rattle.c_value.specs.declared.kind.Kind.TheVariants as kinds;
 
@@ -78,7 +78,9 @@ fn computed_numbers(
     }
 }
 
-fn int_truth(holds: bool) -> Number {
+fn truth_number(holds: bool) -> Number
+    ensures { result ≡ truth_number holds }
+{
     Number {
         kind: CNum::I32,
         value: if holds { 1 } else { 0 },
@@ -86,6 +88,7 @@ fn int_truth(holds: bool) -> Number {
 }
 
 /// The number that `k OP k` gives; nothing where C leaves it undefined.
+#[tactic(auto, using(crate::proofs::Truth::truths))]
 pub fn computed_of(left: &Reading, op: BinaryOp, right: &Reading) -> Option<Number>
     ensures { shown result ≡ computed_of left.now op right.now }
 {
@@ -93,7 +96,7 @@ pub fn computed_of(left: &Reading, op: BinaryOp, right: &Reading) -> Option<Numb
         (Kind::Number(from), Kind::Number(to)) => {
             computed_numbers(from, &left.value, op, to, &right.value)
         }
-        _ => Some(int_truth(by_equality(op, same_pointer(&left.value, &right.value)))),
+        _ => Some(truth_number(by_equality(op, same_pointer(&left.value, &right.value)))),
     }
 }
 
