@@ -4,6 +4,7 @@ ghost use Rattle.c_arith.specs.Numbers.{IsNumber};
 ghost use Rattle.c_assign.specs.Numbers.{shown, truth_number};
 ghost use Rattle.c_state.specs.Assignments.{both_set, by_equality, cast_value, computed_by, computed_of, inverse_of, is_equality, is_true, may_cast, may_compute, number, result_of, truth};
 ghost use Rattle.c_value.specs.declared.kind.Kind.TheVariants as kinds;
+ghost use Rattle.c_value.specs.declared.value.Value.TheVariants as values;
 
 use c_arith::{Computed, Number, compute, convert, invert};
 use c_tree::BinaryOp;
@@ -90,7 +91,7 @@ fn truth_number(holds: bool) -> Number
 /// The number that `k OP k` gives; nothing where C leaves it undefined.
 #[tactic(auto, using(crate::proofs::Truth::truths))]
 pub fn computed_of(left: &Reading, op: BinaryOp, right: &Reading) -> Option<Number>
-    ensures { shown result ≡ computed_of left.now op right.now }
+    ensures { computed_of left.now op right.now ≡ shown result }
 {
     match (left.kind, right.kind) {
         (Kind::Number(from), Kind::Number(to)) => {
@@ -144,12 +145,22 @@ pub fn may_cast(from: Kind, to: Kind) -> bool
     converts(from, to) && !is_view(to)
 }
 
+/// Whether a number counts as true in a test.
+pub fn is_not_zero(number: i128) -> bool
+    ensures { result ≡ is_true (values.Number number) }
+{
+    match number {
+        0 => false,
+        _ => true,
+    }
+}
+
 /// Whether a value counts as true in a test.
 pub fn is_true(value: &Value) -> bool
     ensures { result ≡ is_true value.now }
 {
     match value {
-        Value::Number(number) => *number != 0,
+        Value::Number(number) => is_not_zero(*number),
         _ => true,
     }
 }
