@@ -1,10 +1,12 @@
 //! How an answer comes back to the frame that asked (Python/C API manual, "Reference Counts", "Exception Handling").
-ghost use Rattle.std.specs.Prelude.{◌≡◌, ◌∷◌, [], IfOk};
+ghost use Rattle.std.specs.Prelude.{◌≡◌, ◌∷◌, [], IfOk, Some, true};
+ghost use Rattle.api_model.specs.declared.event.Event.TheVariants as events;
+ghost use Rattle.c_value.specs.declared.change.Flow.TheVariants as flows;
+ghost use Rattle.c_state.specs.Planned.{nothing};
 ghost use Rattle.c_state.specs.Answered.{added, answering, error_of, failure_of, gained, gains_of, lends_of, lent_by, made, thrown, value_of, view_of, viewed};
 
 use api_model::{Answer, ApiRow, Entry, Event, Fails, Gives, Info, Obj, is_view};
-use c_state::nothing;
-use c_value::{Change, ErrorChange, Flow, Making, SpaceChange, Value, ViewInfo};
+use c_value::{Change, ErrorChange, Flow, Making, Remembering, SpaceChange, Value, ViewInfo};
 use cy_base::OutOfMemory;
 use sqlite_items::Items;
 use std::alloc::Global;
@@ -174,6 +176,49 @@ fn copied_answer(alloc: Global, answer: &Answer) -> Result<Answer, OutOfMemory>
     }
 }
 
+// What an answer brings to the frame.
+#[derive(Drop)]
+struct Brought {
+    lends: Items<Obj>,
+    gains: Items<Obj>,
+    error: ErrorChange,
+}
+
+fn brought_by(alloc: Global, row: ApiRow, answer: &Answer) -> Result<Brought, OutOfMemory>
+    ensures { IfOk result (λ b. (b.lends ≡ lends_of row answer.now) × (b.gains ≡ gains_of row answer.now) × (b.error ≡ error_of row answer.now)) }
+{
+    let lends = lends_of(alloc, row, answer)?;
+    let gains = gains_of(alloc, row, answer)?;
+    let error = error_of(alloc, row, answer)?;
+    Ok(Brought {
+        lends,
+        gains,
+        error,
+    })
+}
+
+fn runs_again(alloc: Global, answer: Answer, brought: Brought, space: SpaceChange) -> Change
+    ensures { result ≡ record nothing { takes = true; event = Some (events.Answer answer); lends = brought.lends; gains = brought.gains; error = brought.error; space = space; flow = flows.Runs } }
+{
+    Change {
+        takes: true,
+        event: Some(Event::Answer(answer)),
+        flow: Flow::Runs,
+        ends_loans: false,
+        lends: brought.lends,
+        gains: brought.gains,
+        loses: Items::new(alloc),
+        gets_back: Items::new(alloc),
+        error: brought.error,
+        lock: None,
+        remembered: Remembering::Stays,
+        space,
+        begins: None,
+        course: None,
+        gives: None,
+    }
+}
+
 /// The frame runs again.
 pub fn answering(
     alloc: Global,
@@ -184,19 +229,8 @@ pub fn answering(
 ) -> Result<Change, OutOfMemory>
     ensures { IfOk result (λ r. r ≡ answering row making entry.now answer.now) }
 {
-    let lends = lends_of(alloc, row, answer)?;
-    let gains = gains_of(alloc, row, answer)?;
-    let error = error_of(alloc, row, answer)?;
+    let brought = brought_by(alloc, row, answer)?;
+    let copy = copied_answer(alloc, answer)?;
     let space = made(alloc, making, entry, answer)?;
-    let answer = copied_answer(alloc, answer)?;
-    Ok(Change {
-        takes: true,
-        event: Some(Event::Answer(answer)),
-        lends,
-        gains,
-        error,
-        space,
-        flow: Flow::Runs,
-        ..nothing(alloc)
-    })
+    Ok(runs_again(alloc, copy, brought, space))
 }

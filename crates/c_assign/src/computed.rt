@@ -1,9 +1,10 @@
 //! What operators give (ISO/IEC 9899:2011 6.5.3.3 to 6.5.12).
 ghost use Rattle.std.specs.Prelude.{◌≡◌, IfOk};
 ghost use Rattle.c_arith.specs.Numbers.{IsNumber};
-ghost use Rattle.c_assign.specs.Numbers.{shown};
+ghost use Rattle.c_assign.specs.Numbers.{shown, truth_number};
 ghost use Rattle.c_state.specs.Assignments.{both_set, by_equality, cast_value, computed_by, computed_of, inverse_of, is_equality, is_true, may_cast, may_compute, number, result_of, truth};
 ghost use Rattle.c_value.specs.declared.kind.Kind.TheVariants as kinds;
+ghost use Rattle.c_value.specs.declared.value.Value.TheVariants as values;
 
 use c_arith::{Computed, Number, compute, convert, invert};
 use c_tree::BinaryOp;
@@ -78,7 +79,9 @@ fn computed_numbers(
     }
 }
 
-fn int_truth(holds: bool) -> Number {
+fn truth_number(holds: bool) -> Number
+    ensures { result ≡ truth_number holds }
+{
     Number {
         kind: CNum::I32,
         value: if holds { 1 } else { 0 },
@@ -86,14 +89,15 @@ fn int_truth(holds: bool) -> Number {
 }
 
 /// The number that `k OP k` gives; nothing where C leaves it undefined.
+#[tactic(auto, using(crate::proofs::Truth::truths))]
 pub fn computed_of(left: &Reading, op: BinaryOp, right: &Reading) -> Option<Number>
-    ensures { shown result ≡ computed_of left.now op right.now }
+    ensures { computed_of left.now op right.now ≡ shown result }
 {
     match (left.kind, right.kind) {
         (Kind::Number(from), Kind::Number(to)) => {
             computed_numbers(from, &left.value, op, to, &right.value)
         }
-        _ => Some(int_truth(by_equality(op, same_pointer(&left.value, &right.value)))),
+        _ => Some(truth_number(by_equality(op, same_pointer(&left.value, &right.value)))),
     }
 }
 
@@ -141,12 +145,22 @@ pub fn may_cast(from: Kind, to: Kind) -> bool
     converts(from, to) && !is_view(to)
 }
 
+/// Whether a number counts as true in a test.
+pub fn is_not_zero(number: i128) -> bool
+    ensures { result ≡ is_true (values.Number number) }
+{
+    match number {
+        0 => false,
+        _ => true,
+    }
+}
+
 /// Whether a value counts as true in a test.
 pub fn is_true(value: &Value) -> bool
     ensures { result ≡ is_true value.now }
 {
     match value {
-        Value::Number(number) => *number != 0,
+        Value::Number(number) => is_not_zero(*number),
         _ => true,
     }
 }

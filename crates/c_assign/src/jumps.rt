@@ -3,7 +3,7 @@ ghost use Rattle.std.specs.Prelude.{◌≡◌, IfOk, option_to_list};
 ghost use Rattle.std.specs.Option.{option_copied};
 ghost use Rattle.c_state.specs.Assignments.{branch, goto_compare, goto_error};
 
-use crate::computed::{both_set, computed_of, may_compute};
+use crate::computed::{both_set, computed_of, is_not_zero, may_compute};
 use crate::operand::{Operand, lends_both, may_be_read};
 use api_model::Obj;
 use c_state::{State, lending, nothing};
@@ -52,7 +52,7 @@ pub fn goto_compare(
         return Ok(Planned::Fault(FaultKind::Unlocked));
     }
     let loans = lends_both(alloc, left, right)?;
-    Ok(branch(alloc, label, loans, number.value != 0))
+    Ok(branch(alloc, label, loans, is_not_zero(number.value)))
 }
 
 fn error_set(alloc: Global, error: Option<&Obj>) -> Result<Items<Obj>, OutOfMemory>

@@ -4,6 +4,7 @@ use crate::{
 };
 use c_frame::{Cells, Code, LinkedFunction};
 use c_ledger::Ledger;
+use c_space::{Instances, Places};
 use c_state::{Frame, Shared, State, Thread};
 use c_tree::{BinaryOp, CFunction, CHead, CType, CValue, Variable};
 use c_value::{Cell, Course, Doing, Entered, Kind, Planned, Reading, Value};
@@ -20,9 +21,9 @@ const VARIABLE: Variable = Variable::Local(0);
 fn state(alloc: Global) -> State {
     State {
         shared: Shared {
-            instances: Items::new(alloc),
+            instances: Instances::new(alloc),
             views: Items::new(alloc),
-            places: Items::new(alloc),
+            places: Places::new(alloc),
             begun: 0,
             failed: false,
             lock: true,

@@ -1,4 +1,3 @@
 pub mod Among
 pub mod Ends
-pub mod Indexed
 pub mod Unless

@@ -1,13 +1,13 @@
 //! Instances, and what they hold.
 ghost use Rattle.std.specs.Prelude.{◌≡◌};
 ghost use Rattle.std.specs.Option.{option_copied};
-ghost use Rattle.c_state.specs.State.{if_alive, instance_at, instance_of, part_of};
+ghost use Rattle.c_state.specs.State.{if_alive, instance_at, instance_of};
 ghost use Rattle.c_state.specs.Stores.{field_in, field_of, field_value};
 
 use api_model::Obj;
 use c_state::State;
 use c_tree::Numbered;
-use c_value::{Instance, Kind, Part, Value, same_number};
+use c_value::{Instance, Kind, Value};
 use sqlite_items::Items;
 
 fn if_alive(instance: &Instance) -> Option<&Instance>
@@ -36,18 +36,6 @@ pub fn instance_of<'a>(state: &'a State, value: &Value) -> Option<&'a Instance>
     }
 }
 
-/// What an instance holds of the struct of a class.
-pub fn part_of(parts: &[Part], class: Numbered) -> Option<&Items<(Kind, Value)>>
-    ensures { option_copied result ≡ part_of parts.now class }
-{
-    for part in parts {
-        if same_number(part.class, class) {
-            return Some(&part.fields);
-        }
-    }
-    None
-}
-
 fn field_in(fields: Option<&Items<(Kind, Value)>>, field: u32) -> Option<&Value>
     ensures { option_copied result ≡ field_in (option_copied fields.entry) field }
 {
@@ -67,7 +55,7 @@ pub fn field_value<'a>(
     ensures { option_copied result ≡ field_value state.now value.now class field }
 {
     match instance_of(state, value) {
-        Some(instance) => field_in(part_of(instance.parts.as_slice(), class), field),
+        Some(instance) => field_in(instance.parts.find(class), field),
         None => None,
     }
 }

@@ -14,7 +14,7 @@ mod tests;
 
 pub use globals::{lends, lends_each, may_read, may_read_each};
 pub use holding::{all_held, held, in_constants};
-pub use instances::{field_value, instance_at, instance_of, part_of};
+pub use instances::{field_value, instance_at, instance_of};
 pub use reads::{
     argument_at, class_object_of, definition_reading, literal_reading, type_address,
     variable_reading,

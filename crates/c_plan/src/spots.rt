@@ -32,12 +32,8 @@ pub fn is_module_variable(place: Place, kind: Kind) -> bool
 }
 
 /// A place of a file, by the file's number.
-#[tactic(auto, using(crate::proofs::Indexed::indexed))]
 pub fn find_spot(state: &State, file: u32, place: Place) -> Option<&Spot>
     ensures { option_copied result ≡ spot (spots_at state.now file) place }
 {
-    match state.shared.places.get(file as usize) {
-        Some(spots) => spots.find(place),
-        None => None,
-    }
+    state.shared.places.find(file as usize, place)
 }

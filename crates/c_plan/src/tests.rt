@@ -1,17 +1,18 @@
 use crate::{
     all_held, argument_at, class_object_of, definition_reading, field_value, find_spot, give,
     give_by, give_to, give_to_by, held, instance_at, instance_of, is_constant, lends, lends_each,
-    literal_reading, may_read, may_read_each, may_store_to, may_write_to, owns_moved, part_of,
-    receives, result_may_store, takes, target_kind, type_address, variable_reading,
+    literal_reading, may_read, may_read_each, may_store_to, may_write_to, owns_moved, receives,
+    result_may_store, takes, target_kind, type_address, variable_reading,
 };
 use api_model::{Allocation, Obj};
 use c_frame::{Cells, Code, LinkedFunction, Spots};
 use c_ledger::Ledger;
+use c_space::{Instances, Places};
 use c_state::{Frame, Shared, State, Thread, nothing};
 use c_token::Bytes;
 use c_tree::{Argument, CFunction, CHead, CValue, Literal, Numbered, Place, Variable};
 use c_value::{
-    Cell, Course, Doing, Entered, Instance, ItemPlace, Kind, Part, Reading, Spot, Value,
+    Cell, Course, Doing, Entered, Instance, ItemPlace, Kind, Part, Parts, Reading, Spot, Value,
 };
 use cy_num::CNum;
 use sqlite_items::Items;
@@ -42,7 +43,7 @@ fn spots(alloc: Global) -> Result<Spots, Fail> {
 fn instance(alloc: Global) -> Result<Instance, Fail> {
     let mut fields = Items::new(alloc);
     fields.push((Kind::Object, Value::Null))?;
-    let mut parts = Items::new(alloc);
+    let mut parts = Vec::new(alloc);
     parts.push(Part {
         class: CLASS,
         fields,
@@ -52,14 +53,14 @@ fn instance(alloc: Global) -> Result<Instance, Fail> {
         allocation: Allocation::Static,
         alive: true,
         table: None,
-        parts,
+        parts: Parts::from_vec(parts),
     })
 }
 
 fn state(alloc: Global) -> Result<State, Fail> {
-    let mut instances = Items::new(alloc);
+    let mut instances = Instances::new(alloc);
     instances.push(instance(alloc)?)?;
-    let mut places = Items::new(alloc);
+    let mut places = Places::new(alloc);
     places.push(spots(alloc)?)?;
     Ok(State {
         shared: Shared {
@@ -122,9 +123,7 @@ fn instances_and_places_are_found(rt: HostRuntime) -> Result<(), Fail> {
     assert!(rt; instance_at(&state, 0).is_some());
     let value = Value::Object(Obj::Inst(0));
     assert!(rt; field_value(&state, &value, CLASS, 0).is_some());
-    if let Some(instance) = instance_of(&state, &value) {
-        assert!(rt; part_of(instance.parts.as_slice(), CLASS).is_some());
-    }
+    assert!(rt; instance_of(&state, &value).is_some());
     assert!(rt; find_spot(&state, 0, Place::Global(0)).is_some());
     assert!(rt; is_constant(Place::Module));
     assert!(rt; !held(&state, &Obj::Foreign(1)));
