@@ -1,13 +1,14 @@
 //! What the newest frame becomes.
 ghost use Rattle.std.specs.Prelude.{◌≡◌, OnOk};
-ghost use Rattle.c_state.specs.Changed.{doing_it, give_value, jump_to, put_in_frame, put_value};
+ghost use Rattle.c_state.specs.Changed.{doing_it, jump_to, put_in_frame, put_value};
 ghost use Rattle.c_state.specs.State.{in_frame};
+ghost use Rattle.c_tree.specs.declared.name.Variable.TheVariants as variable;
 ghost use Rattle.c_change.specs.Newest.{newest_file};
 
 use crate::space::put_spot;
 use c_frame::Code;
 use c_state::{Frame, State};
-use c_tree::Variable;
+use c_tree::{Place, Variable};
 use c_value::{Doing, Value};
 use cy_base::OutOfMemory;
 use std::mem::replace;
@@ -75,12 +76,21 @@ fn newest_file(state: &State) -> Option<u32>
     }
 }
 
+fn put_place(state: &mut State, place: Place, value: Value)
+    ensures { state.new ≡ put_value state.old.thread.frames (variable.Place place) value state.old }
+{
+    match newest_file(state) {
+        Some(file) => put_spot(state, file, place, value),
+        None => let_value_go(value),
+    }
+}
+
 /// A variable of the newest frame, or a place of its file, gets a value.
 pub fn put_value(state: &mut State, variable: Variable, value: Value)
     ensures { state.new ≡ put_value state.old.thread.frames variable value state.old }
 {
-    match (newest_file(state), variable) {
-        (Some(file), Variable::Place(place)) => put_spot(state, file, place, value),
+    match variable {
+        Variable::Place(place) => put_place(state, place, value),
         _ => put_variable(state, variable, value),
     }
 }

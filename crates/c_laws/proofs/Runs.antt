@@ -25,7 +25,7 @@ module _ (files : List CFile) (script : List Entry) where
   lines_append (suc n) k c =
       ap (λ (es : List Event). (c_step files script c).events ++ es) (lines_append n k (c_step files script c).state)
       ∙ sym (append-assoc (c_step files script c).events (lines_of files script n (c_step files script c).state)
-            (lines_of files script k (c_steps files script n (c_step files script c).state)))
+      (lines_of files script k (c_steps files script n (c_step files script c).state)))
 
 pub runs_go_on : (files : List CFile) (script : List Entry) (n k : ℕ) → RunsGoOn files script n k
 runs_go_on files script n k = record {
