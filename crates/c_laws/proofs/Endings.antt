@@ -1,5 +1,5 @@
 -- After its end a run stays.
-use Rattle.std.proofs.Common.{◌≡◌, ℕ, zero, suc, Bool, true, false, List, [], ◌∷◌, Option, Some, None, refl, sym, ap, ◌∙◌, subst, length}
+use Rattle.std.proofs.Common.{◌≡◌, ℕ, zero, suc, Bool, true, false, List, [], ◌∷◌, refl, ap, ◌∙◌, subst, length}
 use Rattle.std.specs.Prelude.{if◌then◌else◌, ⊤}
 use Rattle.api_model.specs.declared.entry.Entry.{Entry}
 use Rattle.api_model.specs.declared.event.Event.{Event}
@@ -13,7 +13,8 @@ use Rattle.c_value.specs.declared.space.Course.TheVariants as course
 use Rattle.c_state.specs.declared.state.Frame.{Frame}
 use Rattle.c_state.specs.declared.state.State.{State}
 use Rattle.c_state.specs.Elements.{stopping}
-use Rattle.c_state.specs.Machine.{Moved, Went, Over, Faulted, Stepped, made_by, statement, by_frame, by_frames, by_course, move, wants_entry, outside, outside_by, outside_frames, behind, settle_for, settle, settled, stepped, over_answer, from_settled, c_step}
+use Rattle.c_state.specs.Outside.{await, idle}
+use Rattle.c_state.specs.Machine.{next_entry, Moved, Went, Over, Faulted, Stepped, made_by, statement, by_frame, by_frames, by_course, move, wants_entry, outside, outside_by, behind, settle_for, settle, settled, stepped, over_answer, from_settled, c_step}
 use Rattle.c_laws.specs.Laws.{EndStays, is_end}
 use Rattle.c_laws.proofs.Runs.{stays_settled}
 
@@ -47,11 +48,11 @@ module _ (files : List CFile) (script : List Entry) where
   frame_goes c f doing.Runs =
       either_goes (wants_entry script c f) (made_by files c (Does stopping)) (statement files script c f)
       (made_goes c (Does stopping)) (made_goes _ _)
-  frame_goes c f (doing.Asks o r m x) = made_goes c _
+  frame_goes c f (doing.Asks o r m x) = made_goes c (await files c f o r m x (next_entry script c))
   frame_goes c f (doing.Waits x) = tt
 
   frames_go : (c : State) (fs : List Frame) → GoesOn (by_frames files script c fs)
-  frames_go c [] = made_goes c _
+  frames_go c [] = made_goes c (Does (idle files c (next_entry script c)))
   frames_go c (f ∷ fs) = frame_goes c f f.doing
 
   outside_goes : (c : State) (q : Course) → outside_by script c q ≡ true → GoesOn (by_course files script c q)
@@ -95,7 +96,7 @@ module _ (files : List CFile) (script : List Entry) where
   stepped_stays c es d Over q e = over_step d q
   stepped_stays c es d (Went more f) q e =
       absurd (settled_no_end c (behind (Went es d) (λ x. behind (Went more f) (settle files script)))
-      (behind_went es d (behind (Went more f) (settle files script)) (behind_goes (Went more f) (settle files script) tt (settle_goes _))) e)
+      (behind_went es d (behind (Went more f) (settle files script)) (behind_goes (Went more f) (settle files script) tt (settle_goes (suc (suc (length script)))))) e)
   stepped_stays c es d (Faulted k) q e =
       absurd (settled_no_end c (behind (Went es d) (λ x. behind (Faulted k) (settle files script))) tt e)
 
@@ -106,7 +107,7 @@ module _ (files : List CFile) (script : List Entry) where
 
 pub end_stays : (files : List CFile) (script : List Entry) (c : State) → EndStays files script c
 end_stays files script c =
-    let stays = from_stays files script c (settle files script c) (settle_goes files script _ c) in
+    let stays = from_stays files script c (settle files script c) (settle_goes files script (suc (suc (length script))) c) in
     record {
       answer = λ e. ap (λ (s : Stepped). s.answer) (stays e);
       events = λ e. ap (λ (s : Stepped). s.events) (stays e);

@@ -1,6 +1,6 @@
 -- Laws of runs.
-use Rattle.std.proofs.Common.{◌≡◌, ℕ, zero, suc, ◌+◌, Bool, true, false, List, [], ◌∷◌, ◌++◌, refl, sym, ap, ◌∙◌, subst, length}
-use Rattle.std.proofs.lemmas.List.{append-assoc}
+use Rattle.std.proofs.Common.{◌≡◌, ℕ, zero, suc, ◌+◌, Bool, true, false, List, [], ◌++◌, refl, sym, ap, ◌∙◌, length, arith}
+use Rattle.std.proofs.lemmas.List.{append_assoc}
 use Rattle.std.specs.Prelude.{if◌then◌else◌}
 use Rattle.api_model.specs.declared.entry.Entry.{Entry}
 use Rattle.api_model.specs.declared.event.Event.{Event}
@@ -11,20 +11,27 @@ use Rattle.c_value.specs.declared.step.FaultKind.{FaultKind}
 use Rattle.c_value.specs.declared.step.Step.TheVariants as step
 use Rattle.c_state.specs.declared.state.State.{State}
 use Rattle.c_state.specs.State.{linked}
-use Rattle.c_state.specs.Machine.{Moved, Went, Over, Faulted, Stepped, move, outside, outside_by, by_course, behind, settle_for, settle, settled, stepped, over_answer, from_settled, c_step, c_steps, lines_of}
-use Rattle.c_laws.specs.Laws.{RunsGoOn, EndStays, ChangesNothing, StaysSettled, is_end}
+use Rattle.c_state.specs.Machine.{Moved, Went, Over, Faulted, Stepped, move, outside, behind, settle_for, settle, settled, stepped, over_answer, from_settled, c_step, c_steps, lines_of}
+use Rattle.c_laws.specs.Laws.{RunsGoOn, ChangesNothing, StaysSettled}
+
+none : (k : ℕ) → zero + k ≡ k
+none k = omega arith
+
+one_more : (n k : ℕ) → suc n + k ≡ suc (n + k)
+one_more n k = omega arith
 
 module _ (files : List CFile) (script : List Entry) where
   steps_compose : (n k : ℕ) (c : State) → c_steps files script (n + k) c ≡ c_steps files script k (c_steps files script n c)
-  steps_compose zero k c = refl
-  steps_compose (suc n) k c = steps_compose n k (c_step files script c).state
+  steps_compose zero k c = ap (λ (m : ℕ). c_steps files script m c) (none k)
+  steps_compose (suc n) k c = ap (λ (m : ℕ). c_steps files script m c) (one_more n k) ∙ steps_compose n k (c_step files script c).state
 
   lines_append : (n k : ℕ) (c : State)
       → lines_of files script (n + k) c ≡ lines_of files script n c ++ lines_of files script k (c_steps files script n c)
-  lines_append zero k c = refl
+  lines_append zero k c = ap (λ (m : ℕ). lines_of files script m c) (none k)
   lines_append (suc n) k c =
-      ap (λ (es : List Event). (c_step files script c).events ++ es) (lines_append n k (c_step files script c).state)
-      ∙ sym (append-assoc (c_step files script c).events (lines_of files script n (c_step files script c).state)
+      ap (λ (m : ℕ). lines_of files script m c) (one_more n k)
+      ∙ ap (λ (es : List Event). (c_step files script c).events ++ es) (lines_append n k (c_step files script c).state)
+      ∙ sym (append_assoc (c_step files script c).events (lines_of files script n (c_step files script c).state)
       (lines_of files script k (c_steps files script n (c_step files script c).state)))
 
 pub runs_go_on : (files : List CFile) (script : List Entry) (n k : ℕ) → RunsGoOn files script n k
