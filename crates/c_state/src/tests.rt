@@ -7,8 +7,8 @@ use std::test::Fail;
 #[test]
 fn names_and_changes(rt: HostRuntime) -> Result<(), Fail> {
     let name = class_named(rt.alloc(), b"m.A.B")?;
-    assert!(rt; name.module.as_slice() == b"m");
-    assert!(rt; name.class.as_slice() == b"A.B");
+    assert!(rt; name.module.as_slice() == b"m".as_slice());
+    assert!(rt; name.class.as_slice() == b"A.B".as_slice());
     assert!(rt; is_tuple(&Value::Tuple(Items::new(rt.alloc()))));
     assert!(rt; !is_tuple(&Value::Null));
     let mut objects = Items::new(rt.alloc());
