@@ -1,6 +1,5 @@
 -- What is needed, where the operands or the types have ended.
-use Rattle.std.proofs.Common.{◌≡◌, ℕ, zero, suc, ◌≤◌, List, [], ◌∷◌, true, length, drop, refl, arith}
-use Rattle.std.proofs.Math.Seq.{drop-nil}
+use Rattle.std.proofs.Common.{◌≡◌, ℕ, ◌≤◌, List, [], ◌∷◌, true, length, drop, refl}
 use Rattle.std.proofs.Math.ListN.{drop_of_length-le}
 use Rattle.c_value.specs.declared.kind.Kind.{Kind}
 use Rattle.c_value.specs.declared.value.Reading.{Reading}

@@ -1,5 +1,5 @@
 -- Which type object an operation needs, and what is found in the files. The project's own.
-use Rattle.std.specs.Prelude.{List, [], ◌∷◌, Option, Some, None}
+use Rattle.std.specs.Prelude.{List, ◌∷◌, Option, Some, None}
 use Rattle.c_tree.specs.declared.item.TypeObject.{TypeObject}
 use Rattle.c_tree.specs.declared.item.CFile.{CFile}
 use Rattle.c_value.specs.declared.value.ItemPlace.{ItemPlace}
