@@ -1,5 +1,5 @@
 -- What the table of functions says of names: a function is `static` by its name.
-use Rattle.std.proofs.Common.{◌≡◌, ℕ, Bool, true, false, List, refl, sym, ap, ◌∙◌}
+use Rattle.std.proofs.Common.{◌≡◌, ℕ, Bool, true, false, List, refl, sym, ◌∙◌}
 use Rattle.c_tree.specs.declared.name.FunctionName.{FunctionName}
 use Rattle.c_tree.specs.declared.name.FunctionName.TheVariants as function
 use Rattle.c_tree.specs.declared.item.CHead.{CHead}

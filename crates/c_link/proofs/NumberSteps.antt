@@ -1,5 +1,5 @@
 -- What a table of numbers says of the first item that passes a test.
-use Rattle.std.proofs.Common.{◌≡◌, ℕ, zero, suc, Bool, true, false, List, [], ◌∷◌, Option, Some, None, option_map, refl, ap, sym, ◌∙◌, length, drop, slice_get, if◌then◌else◌, arith, subst}
+use Rattle.std.proofs.Common.{◌≡◌, ℕ, suc, Bool, true, false, List, [], ◌∷◌, Option, Some, None, option_map, refl, ap, sym, ◌∙◌, length, drop, slice_get, if◌then◌else◌, arith, subst}
 use Rattle.std.proofs.Math.ListN.{drop_of_length-le}
 use Rattle.c_tree.specs.declared.name.Numbered.{Numbered}
 use Rattle.c_tree.specs.declared.item.CItem.{CItem}

@@ -1,7 +1,6 @@
-use Rattle.std.proofs.Common.{◌≡◌, ℕ, suc, ◌-◌, length, drop, subst, sym, refl, ◌∙◌, arith}
+use Rattle.std.proofs.Common.{◌≡◌, ℕ, suc, ◌-◌, length, drop, subst, refl, ◌∙◌, arith}
 use Rattle.std.proofs.lemmas.Option.{slice_get_read}
-use Rattle.c_tree.specs.declared.item.CItem.{CItem}
-use Rattle.c_link.specs.FunctionNumbers.{AreFunctionsFrom, IsItemNoted, has_name}
+use Rattle.c_link.specs.FunctionNumbers.{AreFunctionsFrom, has_name}
 use Rattle.c_link.proofs.NumberSteps.{first_from-end, first_from-noted}
 use Rattle.c_link.proofs.function_numbers.FunctionNumbers.of_items.Goals as goal
 
