@@ -9,7 +9,7 @@ use crate::linked::Linked;
 use api_model::Allocation;
 use c_frame::Spots;
 use c_tree::{Base, CItem, CType, Numbered};
-use c_value::{Instance, ItemPlace, Kind, Part, Spot, Value, kind_of, zero_of};
+use c_value::{Instance, ItemPlace, Kind, Part, Parts, Spot, Value, kind_of, zero_of};
 use cy_base::OutOfMemory;
 use sqlite_items::Items;
 use std::alloc::Global;
@@ -34,10 +34,10 @@ fn first_part(alloc: Global, class: Numbered, fields: &[CType]) -> Result<Part, 
     })
 }
 
-fn first_parts(alloc: Global, files: &Linked, class: Numbered) -> Result<Items<Part>, OutOfMemory>
-    ensures { IfOk result (λ it. it ≡ first_parts files.now (item_count files.now) class) }
+fn first_parts(alloc: Global, files: &Linked, class: Numbered) -> Result<Vec<Part>, OutOfMemory>
+    ensures { IfOk result (λ it. it.items ≡ first_parts files.now (item_count files.now) class) }
 {
-    let mut parts = Items::new(alloc);
+    let mut parts = Vec::new(alloc);
     let mut next = class;
     let mut left = files.item_count();
     while left > 0 {
@@ -54,12 +54,12 @@ fn first_parts(alloc: Global, files: &Linked, class: Numbered) -> Result<Items<P
     Ok(parts)
 }
 
-fn parts_by(alloc: Global, files: &Linked, place: ItemPlace) -> Result<Items<Part>, OutOfMemory>
+fn parts_by(alloc: Global, files: &Linked, place: ItemPlace) -> Result<Parts, OutOfMemory>
     ensures { IfOk result (λ it. it ≡ parts_by files.now (type_at files.now place)) }
 {
     match files.type_at(place) {
-        None => Ok(Items::new(alloc)),
-        Some(object) => first_parts(alloc, files, object.size),
+        None => Ok(Parts::from_vec(Vec::new(alloc))),
+        Some(object) => Ok(Parts::from_vec(first_parts(alloc, files, object.size)?)),
     }
 }
 

@@ -12,6 +12,6 @@ loop-left-preserved c =
     let fields = c.in-Some.it.fields.now in
     let there = sym c.struct_of.ensures ∙ ap shown_struct c.in-Some.is in
     let parts = parts-class files c.loop-left.left (c.loop-left.left - 1) c.loop-left.next c.in-Class.base c.in-Some.it.base fields more there c.in-Class.is in
-    part-more (first_parts files (item_count files) c.args.class) c.loop-left.parts c.push.new.self (first_parts files c.loop-left.left c.loop-left.next)
+    part-more (first_parts files (item_count files) c.args.class) c.loop-left.parts.items c.push.new.self.items (first_parts files c.loop-left.left c.loop-left.next)
     (first_parts files (c.loop-left.left - 1) c.in-Class.base) (part_by c.loop-left.next fields) c.in_ok-first_part.field-0
-    c.loop-left.invariant parts c.in_ok-push.ensures.ok c.in_ok-first_part.ensures
+    c.loop-left.invariant parts c.in_ok-push.ensures.items c.in_ok-first_part.ensures
