@@ -1,8 +1,8 @@
 use crate::{
     answering, api_named, are_needed, asking, clean_fault, clears_error, comparison_of,
-    converted_by, copied_op, error_of, failure_of, gains_of, given_by, is_tuple, lends_of, made,
-    making_of, number_given, op_of, operands, sets_error, suit_row, suit_values, type_wanted,
-    value_of, values_by,
+    converted_by, copied_op, error_of, failure_of, gains_of, given_by, lends_of, made, making_of,
+    number_given, op_of, operands, sets_error, suit_row, suit_values, type_wanted, value_of,
+    values_by,
 };
 use api_model::{Answer, ApiRow, Entry, Fails, Gives, Obj};
 use c_value::{Api, FaultKind, Kind, Making, Reading, Value};
