@@ -2,6 +2,8 @@
 ghost use Rattle.std.specs.Prelude.{◌≡◌, ◌∷◌, [], ◌++◌, ◌<◌, IfOk, OnOk, OnErr, length, if◌then◌else◌, remove};
 ghost use Rattle.c_ledger.specs.Ledger.{account_at, counts, empty, entered, gained, has, left, loaned, lost, more_own, without_loans};
 
+mod newest;
+
 use crate::objects::{counts, has, place_of};
 use api_model::Obj;
 use cy_base::OutOfMemory;
@@ -11,7 +13,7 @@ use std::marker::Model;
 
 /// What a frame owns, and what was lent to it when it was entered.
 #[derive(Drop)]
-struct Account {
+pub struct Account {
     own: Items<Obj>,
     lent: Items<Obj>,
 }
@@ -29,7 +31,7 @@ impl Model for Account {
 pub struct Ledger {
     alloc: Global,
     frames: Vec<Account>,
-    loans: Vec<Obj>,
+    loans: Items<Obj>,
 }
 
 impl Model for Ledger {
@@ -37,7 +39,7 @@ impl Model for Ledger {
 
     ghost Value = { Accounts };
 
-    ghost view = { λ l. record { frames = l.frames.items; loans = l.loans.items } };
+    ghost view = { λ l. record { frames = l.frames.items; loans = l.loans } };
 }
 
 impl Account {
@@ -65,7 +67,7 @@ impl Ledger {
         Ledger {
             alloc,
             frames: Vec::new(alloc),
-            loans: Vec::new(alloc),
+            loans: Items::new(alloc),
         }
     }
 
@@ -125,7 +127,7 @@ impl Ledger {
     pub fn end_loans(&mut self)
         ensures { self.new ≡ without_loans self.old }
     {
-        self.loans.clear();
+        self.loans = Items::new(self.alloc);
     }
 
     /// How many frames there are.

@@ -8,4 +8,5 @@ mod objects;
 mod tests;
 
 pub use laws::{newest_frames_come_first, references_are_counted};
-pub use ledger::Ledger;
+pub use ledger::{Account, Ledger};
+pub use objects::has;

@@ -4,8 +4,8 @@ use Rattle.std.specs.Str.{bytes_eq}
 use Prim.Native.String.{String}
 use Rattle.api_model.specs.declared.op.BinaryOp.TheVariants as binary
 use Rattle.api_model.specs.declared.op.UnaryOp.TheVariants as unary
-use Rattle.c_state.specs.declared.api.Api.{Api}
-use Rattle.c_state.specs.declared.api.Api.TheVariants as api
+use Rattle.c_value.specs.declared.api.Api.{Api}
+use Rattle.c_value.specs.declared.api.Api.TheVariants as api
 
 pub record Named : Type 0 where
   pub name : List ℕ

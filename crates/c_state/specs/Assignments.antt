@@ -1,6 +1,6 @@
 -- `x = k;`, `x = k OP k;`, `x = ~k;`, `x = (T)k;` and jumps (ISO/IEC 9899:2011 6.5.3.3 to 6.5.16, 6.8.6.1).
 use Rattle.api_model.specs.declared.object.Obj.{Obj}
-use Rattle.std.specs.Prelude.{zero, Bool, true, false, not, ◌&&◌, ◌||◌, List, Option, Some, None, ℤ, pos, is_none, ℕ, ◌++◌, [], ◌∷◌}
+use Rattle.std.specs.Prelude.{zero, Bool, true, false, not, ◌&&◌, ◌||◌, List, Option, Some, None, ℤ, pos, is_none, ℕ, ◌++◌, [], option_to_list}
 use Rattle.cy_num.specs.declared.types.CNum.{CNum}
 use Rattle.cy_num.specs.Wrapping.{wrap}
 use Rattle.c_tree.specs.declared.name.Variable.{Variable}
@@ -11,25 +11,26 @@ use Rattle.c_tree.specs.declared.statement.BinaryOp.{BinaryOp}
 use Rattle.c_tree.specs.declared.statement.BinaryOp.TheVariants as op
 use Rattle.c_tree.specs.declared.statement.CTest.{CTest}
 use Rattle.c_tree.specs.declared.statement.CTest.TheVariants as test
-use Rattle.c_tree.specs.declared.item.Line.{Line}
 use Rattle.c_tree.specs.declared.item.CFile.{CFile}
 use Rattle.c_arith.specs.declared.number.Computed.{Computed}
 use Rattle.c_arith.specs.declared.number.Computed.TheVariants as computation
 use Rattle.c_arith.specs.declared.number.Number.{Number}
 use Rattle.c_arith.specs.Operators.{computed, inverted}
-use Rattle.c_state.specs.declared.step.FaultKind.TheVariants as fault
-use Rattle.c_state.specs.declared.kind.Kind.{Kind}
-use Rattle.c_state.specs.declared.kind.Kind.TheVariants as kind
-use Rattle.c_state.specs.declared.value.Value.{Value}
-use Rattle.c_state.specs.declared.value.Value.TheVariants as value
-use Rattle.c_state.specs.declared.value.Reading.{Reading}
-use Rattle.c_state.specs.Values.{kind_of, int, converts, is_number, is_view, are_pointers, is_set, same_pointer}
-use Rattle.c_state.specs.State.{Frame, CState}
-use Rattle.c_state.specs.declared.change.Planned.{Planned}
-use Rattle.c_state.specs.declared.change.Planned.TheVariants.{Does}
+use Rattle.c_value.specs.declared.step.FaultKind.TheVariants as fault
+use Rattle.c_value.specs.declared.kind.Kind.{Kind}
+use Rattle.c_value.specs.declared.kind.Kind.TheVariants as kind
+use Rattle.c_value.specs.declared.value.Value.{Value}
+use Rattle.c_value.specs.declared.value.Value.TheVariants as value
+use Rattle.c_value.specs.declared.value.Reading.{Reading}
+use Rattle.c_value.specs.Values.{kind_of, int, converts, is_number, is_view, are_pointers, is_set, same_pointer}
+use Rattle.c_value.specs.declared.change.Flow.TheVariants as flow
+use Rattle.c_value.specs.declared.change.Planned.{Planned}
+use Rattle.c_value.specs.declared.change.Planned.TheVariants.{Does}
 use Rattle.c_state.specs.Planned.{need, need_some, need_strictly, nothing, lending}
 use Rattle.c_state.specs.Reads.{read, lends, may_read, takes}
 use Rattle.c_state.specs.Stores.{give, may_store_to, may_write_to, is_tuple}
+use Rattle.c_state.specs.declared.state.Frame.{Frame}
+use Rattle.c_state.specs.declared.state.State.{State}
 
 -- the arguments of an `__init__` go to variables of functions alone
 abbrev pub may_hold : Variable → Value → Bool
@@ -37,7 +38,7 @@ may_hold (variable.Place p) v = not (is_tuple v)
 may_hold x v = true
 
 -- `x = k;`
-abbrev pub assign : CState → Frame → Variable → CValue → Reading → Planned
+abbrev pub assign : State → Frame → Variable → CValue → Reading → Planned
 assign c f x k v =
     need (takes c f x v.kind && (may_store_to c f x && may_hold x v.value)) fault.Stuck
     (need (is_set v.value) fault.Undefined
@@ -67,8 +68,9 @@ abbrev pub result_of : Computed → Option (Kind × Value)
 result_of (computation.Value n) = Some (kind.Number n.kind, value.Number n.value)
 result_of computation.Undefined = None
 
+-- a number is one of its type (6.2.6.1)
 abbrev pub number : CNum → ℤ → Number
-number t z = record { kind = t; value = z }
+number t z = record { kind = t; value = wrap t z }
 
 abbrev pub computed_by : Kind → Value → BinaryOp → Kind → Value → Option (Kind × Value)
 computed_by (kind.Number t) (value.Number a) o (kind.Number u) (value.Number b) = result_of (computed o (number t a) (number u b))
@@ -83,7 +85,7 @@ abbrev pub both_set : Reading → Reading → Bool
 both_set v w = is_set v.value && is_set w.value
 
 -- `x = k OP k;`
-abbrev pub binary : CState → Frame → Variable → CValue → Reading → BinaryOp → CValue → Reading → Planned
+abbrev pub binary : State → Frame → Variable → CValue → Reading → BinaryOp → CValue → Reading → Planned
 binary c f x a v o b w =
     need (may_compute v o w) fault.Stuck
     (need (takes c f x int && may_store_to c f x) fault.Stuck
@@ -97,7 +99,7 @@ inverse_of (kind.Number t) (value.Number a) = value.Number (inverted (number t a
 inverse_of k v = v
 
 -- `x = ~k;`
-abbrev pub invert : CState → Frame → Variable → CValue → Reading → Planned
+abbrev pub invert : State → Frame → Variable → CValue → Reading → Planned
 invert c f x k v =
     need (is_number v.kind && (takes c f x int && may_store_to c f x)) fault.Stuck
     (need (is_set v.value) fault.Undefined
@@ -113,7 +115,7 @@ cast_value k v = v
 abbrev pub may_cast : Kind → Kind → Bool
 may_cast from to = converts from to && not (is_view to)
 
-abbrev pub cast : CState → Frame → Variable → CType → CValue → Reading → Planned
+abbrev pub cast : State → Frame → Variable → CType → CValue → Reading → Planned
 cast c f x t k v =
     need (may_cast v.kind (kind_of t) && (takes c f x (kind_of t) && may_store_to c f x)) fault.Stuck
     (need (is_set v.value) fault.Undefined
@@ -124,7 +126,7 @@ cast c f x t k v =
 
 -- a jump to a label where a test holds, beside loans
 abbrev pub branch : ℕ → List Obj → Bool → Planned
-branch label os true = Does (record nothing { lends = os; jumps = Some label })
+branch label os true = Does (record nothing { lends = os; flow = flow.Jumps label })
 branch label os false = Does (lending os)
 
 abbrev pub is_true : Value → Bool
@@ -132,7 +134,7 @@ is_true (value.Number (pos zero)) = false
 is_true _ = true
 
 -- `if (k OP k) goto L;`
-abbrev pub goto_compare : CState → ℕ → CValue → Reading → BinaryOp → CValue → Reading → Planned
+abbrev pub goto_compare : State → ℕ → CValue → Reading → BinaryOp → CValue → Reading → Planned
 goto_compare c label a v o b w =
     need (may_compute v o w) fault.Stuck
     (need (both_set v w) fault.Undefined
@@ -140,17 +142,13 @@ goto_compare c label a v o b w =
     (need_strictly c (may_read c a v && may_read c b w) fault.Unlocked
     (branch label (lends a v ++ lends b w) (is_true r.1))))))
 
-abbrev pub error_objects : Option Obj → List Obj
-error_objects None = []
-error_objects (Some o) = o ∷ []
-
 -- `if (PyErr_Occurred()) goto L;` lends the exception
-abbrev pub goto_error : CState → ℕ → Planned
-goto_error c label = need_strictly c c.shared.lock fault.Unlocked (branch label (error_objects c.thread.error) (not (is_none c.thread.error)))
+abbrev pub goto_error : State → ℕ → Planned
+goto_error c label = need_strictly c c.shared.lock fault.Unlocked (branch label (option_to_list c.thread.error) (not (is_none c.thread.error)))
 
-abbrev pub goto : List CFile → CState → Frame → CTest → ℕ → List Line → Planned
-goto files c f (test.Compare a o b) label ls =
+abbrev pub goto : List CFile → State → Frame → CTest → ℕ → Planned
+goto files c f (test.Compare a o b) label =
     need_some (read files c f a) fault.Stuck (λ v.
     need_some (read files c f b) fault.Stuck (λ w. goto_compare c label a v o b w))
-goto files c f test.ErrorSet label ls = goto_error c label
-goto files c f test.Always label ls = branch label [] true
+goto files c f test.ErrorSet label = goto_error c label
+goto files c f test.Always label = branch label [] true

@@ -19,26 +19,29 @@ use Rattle.c_tree.specs.declared.item.CHead.{CHead}
 use Rattle.c_tree.specs.declared.item.CHead.TheVariants as head
 use Rattle.c_tree.specs.declared.item.CFunction.{CFunction}
 use Rattle.c_tree.specs.declared.item.CFile.{CFile}
-use Rattle.c_state.specs.declared.step.FaultKind.TheVariants as fault
-use Rattle.c_state.specs.declared.kind.Kind.{Kind}
-use Rattle.c_state.specs.declared.kind.Kind.TheVariants as kind
-use Rattle.c_state.specs.declared.value.Value.{Value}
-use Rattle.c_state.specs.declared.value.Reading.{Reading}
-use Rattle.c_state.specs.declared.space.Instance.{Instance}
-use Rattle.c_state.specs.declared.frame.Cell.{Cell}
-use Rattle.c_state.specs.declared.frame.Entered.{Entered}
-use Rattle.c_state.specs.declared.frame.Entered.TheVariants as entered
-use Rattle.c_state.specs.declared.frame.Doing.TheVariants as doing
-use Rattle.c_state.specs.declared.value.ItemPlace.{ItemPlace}
+use Rattle.c_value.specs.declared.step.FaultKind.TheVariants as fault
+use Rattle.c_value.specs.declared.kind.Kind.{Kind}
+use Rattle.c_value.specs.declared.kind.Kind.TheVariants as kind
+use Rattle.c_value.specs.declared.value.Value.{Value}
+use Rattle.c_value.specs.declared.value.Reading.{Reading}
+use Rattle.c_value.specs.declared.space.Instance.{Instance}
+use Rattle.c_value.specs.declared.frame.Cell.{Cell}
+use Rattle.c_value.specs.declared.frame.Entered.{Entered}
+use Rattle.c_value.specs.declared.frame.Entered.TheVariants as entered
+use Rattle.c_value.specs.declared.frame.Doing.TheVariants as doing
+use Rattle.c_value.specs.declared.value.ItemPlace.{ItemPlace}
 use Rattle.c_state.specs.Linked.{function_named, function_at, table_named, table_at, functions_of, slot_of, begins_with, item_count}
-use Rattle.c_state.specs.Values.{same_kind, kind_of, int, size, converted, initial_value, is_object, all_set, passed, values_of, fits}
-use Rattle.c_state.specs.State.{Frame, CState, all_held, instance_of}
-use Rattle.c_state.specs.declared.change.Planned.{Planned}
-use Rattle.c_state.specs.declared.change.Planned.TheVariants.{Does}
-use Rattle.c_state.specs.declared.change.Change.{Change}
+use Rattle.c_value.specs.Values.{same_kind, kind_of, int, size, converted, initial_value, is_object, all_set, passed, values_of, fits}
+use Rattle.c_state.specs.State.{all_held, instance_of}
+use Rattle.c_value.specs.declared.change.Flow.TheVariants as flow
+use Rattle.c_value.specs.declared.change.Planned.{Planned}
+use Rattle.c_value.specs.declared.change.Planned.TheVariants.{Does}
+use Rattle.c_value.specs.declared.change.Change.{Change}
 use Rattle.c_state.specs.Planned.{need, need_some, need_strictly, nothing}
 use Rattle.c_state.specs.Reads.{receives, lends, lends_each, may_read, may_read_each}
 use Rattle.c_state.specs.Fields.{object_variable, uses}
+use Rattle.c_state.specs.declared.state.Frame.{Frame}
+use Rattle.c_state.specs.declared.state.State.{State}
 
 -- ---- the types of a function
 
@@ -111,7 +114,7 @@ frame_of k fn vs by lock = record {
 -- ---- calls
 
 -- whether a result can go where the call sends it: a `void` function gives none
-abbrev pub receives_result : CState → Frame → Option Variable → Option Kind → Bool
+abbrev pub receives_result : State → Frame → Option Variable → Option Kind → Bool
 receives_result c f None k = true
 receives_result c f (Some x) None = false
 receives_result c f (Some x) (Some k) = receives c f (Some x) k
@@ -120,19 +123,18 @@ receives_result c f (Some x) (Some k) = receives c f (Some x) k
 abbrev pub calling : ItemPlace → Option Variable → List Reading → List Obj → Change
 calling p x vs os = record nothing {
   lends = os;
-  doing = Some (doing.Waits x);
-  enters = Some (record { function = p; values = values_of vs; lent = passed vs; by = entered.FromC });
+  flow = flow.Calls x (record { function = p; values = values_of vs; lent = passed vs; by = entered.FromC });
 }
 
 -- whether the operands are those of a function, and its result can go where it is sent
-abbrev pub suits : CState → Frame → Option Variable → List Reading → CHead → Bool
+abbrev pub suits : State → Frame → Option Variable → List Reading → CHead → Bool
 suits c f x vs h = fits (kinds_of (parameters h)) vs && receives_result c f x (result_kind h)
 
-abbrev pub suits_found : CState → Frame → Option Variable → List Reading → Option CFunction → Bool
+abbrev pub suits_found : State → Frame → Option Variable → List Reading → Option CFunction → Bool
 suits_found c f x vs None = false
 suits_found c f x vs (Some fn) = suits c f x vs fn.head
 
-abbrev pub call_found : List CFile → CState → Frame → Option Variable → List Argument → List Reading → ItemPlace → Planned
+abbrev pub call_found : List CFile → State → Frame → Option Variable → List Argument → List Reading → ItemPlace → Planned
 call_found files c f x ks vs p =
     need (suits_found c f x vs (function_at files p)) fault.Stuck
     (need (all_set vs) fault.Undefined
@@ -146,7 +148,7 @@ callable files k (function.Initializer n) = None
 callable files k name = function_named files k name
 
 -- `x = cyc_f_M_K(k, ..);`
-abbrev pub call : List CFile → CState → Frame → Option Variable → FunctionName → List Argument → List Reading → Planned
+abbrev pub call : List CFile → State → Frame → Option Variable → FunctionName → List Argument → List Reading → Planned
 call files c f x name ks vs = need_some (callable files f.file name) fault.Stuck (call_found files c f x ks vs)
 
 -- ---- `x = ((const struct V *)((struct cyc_root *)y)->vt)->mJ(k, ..);`
@@ -155,7 +157,7 @@ abbrev pub kinds_in : List CType → List Kind
 kinds_in ts = map kind_of ts
 
 -- whether operands and the result suit a slot
-abbrev pub suits_slot : CState → Frame → Option Variable → List Reading → Option Slot → Bool
+abbrev pub suits_slot : State → Frame → Option Variable → List Reading → Option Slot → Bool
 suits_slot c f x vs None = false
 suits_slot c f x vs (Some s) = fits (kinds_in s.parameters) vs && receives_result c f x (result_by s.result)
 
@@ -205,7 +207,7 @@ abbrev pub slot_function : List CFile → ItemPlace → ℕ → Option ItemPlace
 slot_function files p j = named_by files p.file (slot_name (table_at files p) j)
 
 -- the function of the slot is entered
-abbrev pub call_slot : List CFile → CState → Option Variable → Variable → Reading → List Argument → List Reading → Option Slot → ItemPlace → Planned
+abbrev pub call_slot : List CFile → State → Option Variable → Variable → Reading → List Argument → List Reading → Option Slot → ItemPlace → Planned
 call_slot files c x object y ks vs s p =
     need (has_type s (function_at files p)) fault.Stuck
     (need (all_set vs) fault.Undefined
@@ -213,7 +215,7 @@ call_slot files c x object y ks vs s p =
     (need_strictly c (uses c y && all_held c (passed vs)) fault.Unheld
     (Does (calling p x vs (lends (object_variable object) y ++ lends_each ks vs))))))
 
-abbrev pub call_method : List CFile → CState → Frame → Option Variable → Numbered → Variable → ℕ → Reading → List Argument → List Reading → Planned
+abbrev pub call_method : List CFile → State → Frame → Option Variable → Numbered → Variable → ℕ → Reading → List Argument → List Reading → Planned
 call_method files c f x class object j y ks vs =
     need (is_object y.kind && suits_slot c f x vs (slot_of files class j)) fault.Stuck
     (need_some (table_of files class (instance_of c y.value)) fault.BadField (λ t.

@@ -11,28 +11,29 @@ use Rattle.api_model.specs.declared.info.Info.{Info}
 use Rattle.c_tree.specs.declared.name.Variable.{Variable}
 use Rattle.c_tree.specs.declared.value.CType.{CType}
 use Rattle.c_tree.specs.declared.value.CValue.{CValue}
-use Rattle.c_state.specs.declared.step.FaultKind.TheVariants as fault
-use Rattle.c_state.specs.declared.kind.Kind.{Kind}
-use Rattle.c_state.specs.declared.kind.Kind.TheVariants as kind
-use Rattle.c_state.specs.declared.value.Buffer.{Buffer}
-use Rattle.c_state.specs.declared.value.Buffer.TheVariants as buffer
-use Rattle.c_state.specs.declared.value.Value.{Value}
-use Rattle.c_state.specs.declared.value.Value.TheVariants as value
-use Rattle.c_state.specs.declared.value.Reading.{Reading}
-use Rattle.c_state.specs.declared.space.Course.TheVariants as course
-use Rattle.c_state.specs.Values.{kind_of, is_number, is_view, is_set, same_int}
+use Rattle.c_value.specs.declared.step.FaultKind.TheVariants as fault
+use Rattle.c_value.specs.declared.kind.Kind.{Kind}
+use Rattle.c_value.specs.declared.kind.Kind.TheVariants as kind
+use Rattle.c_value.specs.declared.value.Buffer.{Buffer}
+use Rattle.c_value.specs.declared.value.Buffer.TheVariants as buffer
+use Rattle.c_value.specs.declared.value.Value.{Value}
+use Rattle.c_value.specs.declared.value.Value.TheVariants as value
+use Rattle.c_value.specs.declared.value.Reading.{Reading}
+use Rattle.c_value.specs.declared.space.Course.TheVariants as course
+use Rattle.c_value.specs.Values.{kind_of, is_number, is_view, is_set, same_int}
 use Rattle.c_ledger.specs.Ledger.{has}
-use Rattle.c_state.specs.Ledger.{owned, lent}
-use Rattle.c_state.specs.State.{Frame, CState}
-use Rattle.c_state.specs.declared.change.Planned.{Planned}
-use Rattle.c_state.specs.declared.change.Planned.TheVariants.{Does}
-use Rattle.c_state.specs.declared.change.Change.{Change}
+use Rattle.c_ledger.specs.OfNewest.{owned, lent}
+use Rattle.c_value.specs.declared.change.Planned.{Planned}
+use Rattle.c_value.specs.declared.change.Planned.TheVariants.{Does}
+use Rattle.c_value.specs.declared.change.Change.{Change}
 use Rattle.c_state.specs.Planned.{need, need_some, need_strictly, nothing}
 use Rattle.c_state.specs.Reads.{lends, may_read, takes}
 use Rattle.c_state.specs.Stores.{give, may_store_to, may_write_to}
 use Rattle.c_state.specs.Fields.{object_variable}
 use Rattle.c_state.specs.Views.{view_in}
 use Rattle.element_place.specs.Places.{is_element}
+use Rattle.c_state.specs.declared.state.Frame.{Frame}
+use Rattle.c_state.specs.declared.state.State.{State}
 
 -- an element of a view: the view's number, the byte place from the start of its buffer, and its type
 pub record Element : Type 0 where
@@ -44,16 +45,16 @@ abbrev pub if_element : ℕ → ℤ → CNum → Option Info → Option Element
 if_element k at t None = None
 if_element k at t (Some i) = if is_element i t at then Some (record { view = k; at = at; kind = t }) else None
 
-abbrev pub element_by : CState → Buffer → Value → Kind → Option Element
+abbrev pub element_by : State → Buffer → Value → Kind → Option Element
 element_by c (buffer.At k at) (value.Number z) (kind.Number t) = if_element k (at +ℤ z) t (slice_get c.shared.views k)
 element_by c _ _ _ = None
 
 -- the element at `*(T *)(v.buf + y)`, where it is one of its view and T is its type
-abbrev pub element_of : CState → Reading → Reading → CType → Option Element
+abbrev pub element_of : State → Reading → Reading → CType → Option Element
 element_of c v y t = element_by c (view_in v.value).buffer y.value (kind_of t)
 
 -- a view that the frame owns, or that was lent to it
-abbrev pub may_access : CState → Element → Bool
+abbrev pub may_access : State → Element → Bool
 may_access c e = has (owned c.thread.ledger) (obj.View e.view) || has (lent c.thread.ledger) (obj.View e.view)
 
 -- the number that an entry gives: one of the element's type, which wrapping leaves as it is, else 0
@@ -72,12 +73,12 @@ abbrev pub reading : Element → ℤ → List Obj → Change
 reading e z os = record nothing { takes = true; event = Some (event.Get e.view e.at e.kind z); lends = os }
 
 -- without an entry the outside has made `stop` before
-abbrev pub got : CState → Frame → Variable → Element → List Obj → List Entry → Planned
+abbrev pub got : State → Frame → Variable → Element → List Obj → List Entry → Planned
 got c f x e os [] = Does stopping
 got c f x e os (s ∷ ss) = give c f x (value.Number (element_given e.kind s)) (reading e (element_given e.kind s) os)
 
 -- `x = *(T *)(v.buf + y);`
-abbrev pub load_element : List Entry → CState → Frame → Variable → CType → Variable → Reading → Variable → Reading → Planned
+abbrev pub load_element : List Entry → State → Frame → Variable → CType → Variable → Reading → Variable → Reading → Planned
 load_element script c f x t a v b y =
     need (is_view v.kind && (is_number y.kind && (is_number (kind_of t) && (takes c f x (kind_of t) && may_store_to c f x)))) fault.Stuck
     (need_some (element_of c v y t) fault.OutOfView (λ e.
@@ -90,7 +91,7 @@ put_number t (value.Number z) = wrap t z
 put_number t v = pos 0
 
 -- `*(T *)(v.buf + y) = k;`
-abbrev pub store_element : CState → Frame → CType → Variable → Reading → Variable → Reading → CValue → Reading → Planned
+abbrev pub store_element : State → Frame → CType → Variable → Reading → Variable → Reading → CValue → Reading → Planned
 store_element c f t a v b y k w =
     need (is_view v.kind && (is_number y.kind && (is_number (kind_of t) && is_number w.kind))) fault.Stuck
     (need_some (element_of c v y t) fault.OutOfView (λ e.

@@ -4,6 +4,7 @@
 use Rattle.std.specs.Prelude.{ℕ, Bool, false, List, [], ◌∷◌, ◌++◌, Option, Some, None, pos, nat_eq, map, codes, if◌then◌else◌, true}
 use Rattle.std.specs.Str.{bytes_eq}
 use Rattle.api_model.specs.declared.object.Allocation.{Allocation}
+use Rattle.api_model.specs.declared.object.Allocation.TheVariants as allocation
 use Rattle.api_model.specs.declared.object.Callee.{Callee}
 use Rattle.api_model.specs.declared.object.Callee.TheVariants as callee
 use Rattle.api_model.specs.declared.object.ClassName.{ClassName}
@@ -24,18 +25,20 @@ use Rattle.c_tree.specs.declared.item.MethodRow.{MethodRow}
 use Rattle.c_tree.specs.declared.item.PropertyRow.{PropertyRow}
 use Rattle.c_tree.specs.declared.item.TypeObject.{TypeObject}
 use Rattle.c_tree.specs.declared.item.CFile.{CFile}
-use Rattle.c_state.specs.declared.value.ItemPlace.{ItemPlace}
-use Rattle.c_state.specs.declared.value.Value.{Value}
-use Rattle.c_state.specs.declared.value.Value.TheVariants as value
-use Rattle.c_state.specs.declared.space.Spot.{Spot}
-use Rattle.c_state.specs.declared.space.Instance.{Instance}
-use Rattle.c_state.specs.declared.frame.Entered.TheVariants as entered
-use Rattle.c_state.specs.Linked.{function_named, type_at, module_file, methods_named, method_row, properties_named, property_row, sequence_named, mapping_named, class_named_in, is_below, item_count}
-use Rattle.c_state.specs.declared.change.Change.{Change}
+use Rattle.c_value.specs.declared.value.ItemPlace.{ItemPlace}
+use Rattle.c_value.specs.declared.value.Value.{Value}
+use Rattle.c_value.specs.declared.value.Value.TheVariants as value
+use Rattle.c_value.specs.declared.space.Spot.{Spot}
+use Rattle.c_value.specs.declared.frame.Entered.TheVariants as entered
+use Rattle.c_state.specs.Linked.{function_named, type_at, module_file, methods_named, method_row, properties_named, property_row, sequence_named, mapping_named, class_named_in}
+use Rattle.c_value.specs.declared.change.Change.{Change}
+use Rattle.c_value.specs.declared.change.Flow.TheVariants as flow
 use Rattle.c_state.specs.Planned.{nothing}
-use Rattle.c_state.specs.State.{CState, spot, spots_at, instance_of}
+use Rattle.c_state.specs.State.{spots_at, instance_of}
 use Rattle.c_state.specs.Answered.{read_in}
-use Rattle.c_state.specs.Direct.{count_of}
+use Rattle.c_state.specs.Direct.{count_of, is_instance}
+use Rattle.c_state.specs.declared.state.State.{State}
+use Rattle.c_frame.specs.Spots.{spot}
 
 -- a call from outside: the function, the values of its parameters, what is lent to it, and its trace line
 pub record OutsideCall : Type 0 where
@@ -69,11 +72,11 @@ spot_is_one None = false
 spot_is_one (Some s) = is_one s.value
 
 -- whether the functions of a file's module may be entered: `cyc_r` holds 1
-abbrev pub is_ready : CState → ℕ → Bool
+abbrev pub is_ready : State → ℕ → Bool
 is_ready c k = spot_is_one (spot (spots_at c k) place.Ready)
 
 -- what a module gives, where its functions may be entered
-abbrev pub in_module : {A : Type 0} → List CFile → CState → List ℕ → (ℕ → Option A) → Option A
+abbrev pub in_module : {A : Type 0} → List CFile → State → List ℕ → (ℕ → Option A) → Option A
 in_module {A = A} files c name more = by_file (module_file files name)
   where
     by_file : Option ℕ → Option A
@@ -88,7 +91,7 @@ wrapper_call self args lent (Some r) =
     Some (record { name = function.Wrapper r.wrapper; values = self ∷ value.Arguments args ∷ count_of args ∷ []; lent = lent })
 
 -- `module.f`: its `self` is NULL
-abbrev pub function_call : List CFile → CState → FunctionPath → List Obj → Event → Option OutsideCall
+abbrev pub function_call : List CFile → State → FunctionPath → List Obj → Event → Option OutsideCall
 function_call files c p args line =
     in_module files c p.module (λ k.
     call_in files k line (wrapper_call value.Null args args (method_row (methods_named files k table.OfFile) p.name)))
@@ -99,7 +102,7 @@ abbrev pub class_name : List ℕ → List ℕ → List ℕ
 class_name m class = m ++ 46 ∷ class
 
 -- a class that a module gives: its place, and its type object
-abbrev pub in_class : {A : Type 0} → List CFile → CState → List ℕ → List ℕ → (ItemPlace → TypeObject → Option A) → Option A
+abbrev pub in_class : {A : Type 0} → List CFile → State → List ℕ → List ℕ → (ItemPlace → TypeObject → Option A) → Option A
 in_class {A = A} files c m class more = in_module files c m (λ k. by_place (class_named_in files k (class_name m class)))
   where
     by_type : ItemPlace → Option TypeObject → Option A
@@ -110,14 +113,10 @@ in_class {A = A} files c m class more = in_module files c m (λ k. by_place (cla
     by_place None = None
     by_place (Some p) = by_type p (type_at files p)
 
-abbrev pub is_instance_of : List CFile → Option Instance → ItemPlace → Bool
-is_instance_of files None t = false
-is_instance_of files (Some i) t = is_below files (item_count files) i.class t
-
 -- what is called with `self`, the first object, where it is an instance of the class
-abbrev pub with_self : {A : Type 0} → List CFile → CState → ItemPlace → List Obj → (Obj → List Obj → Option A) → Option A
+abbrev pub with_self : {A : Type 0} → List CFile → State → ItemPlace → List Obj → (Obj → List Obj → Option A) → Option A
 with_self files c p [] more = None
-with_self files c p (o ∷ os) more = if is_instance_of files (instance_of c (value.Object o)) p then more o os else None
+with_self files c p (o ∷ os) more = if is_instance files (instance_of c (value.Object o)) p allocation.Static then more o os else None
 
 -- a slot function with its objects
 abbrev pub slot_call : (Numbered → FunctionName) → Option Numbered → List Value → List Obj → Option Wanted
@@ -184,13 +183,13 @@ method_call files k t name o os =
     if bytes_eq name (codes "__contains__") then has_call files k t o os else
     wrapper_call (value.Object o) os (o ∷ os) (method_row (methods_of files k t) name)
 
-abbrev pub member_call : List CFile → CState → MemberPath → List Obj → Event → Option OutsideCall
+abbrev pub member_call : List CFile → State → MemberPath → List Obj → Event → Option OutsideCall
 member_call files c p args line =
     in_class files c p.module p.class (λ here t.
     with_self files c here args (λ o os. call_in files here.file line (method_call files here.file t p.name o os)))
 
 -- `new module.Class`: the type that is made is the class, or a heap type below it
-abbrev pub new_call : List CFile → CState → ClassName → Allocation → Event → Option OutsideCall
+abbrev pub new_call : List CFile → State → ClassName → Allocation → Event → Option OutsideCall
 new_call files c n a line =
     in_class files c n.module n.class (λ here t.
     call_in files here.file line (slot_call function.New t.new (value.TypeObject here a ∷ value.Null ∷ value.Null ∷ []) []))
@@ -209,7 +208,7 @@ setter_of o v lent (Some r) = by_setter r.setter
     by_setter None = None
     by_setter (Some n) = Some (record { name = function.Setter n; values = value.Object o ∷ v ∷ value.Null ∷ []; lent = lent })
 
-abbrev pub property_call : List CFile → CState → MemberPath → Obj → Event → (Obj → Option PropertyRow → Option Wanted) → Option OutsideCall
+abbrev pub property_call : List CFile → State → MemberPath → Obj → Event → (Obj → Option PropertyRow → Option Wanted) → Option OutsideCall
 property_call files c p self line more =
     in_class files c p.module p.class (λ here t.
     with_self files c here (self ∷ []) (λ o os.
@@ -224,12 +223,12 @@ unset_value o r = setter_of o value.Null (o ∷ []) r
 
 -- ---- entries
 
-abbrev pub callee_call : List CFile → CState → Callee → List Obj → Event → Option OutsideCall
+abbrev pub callee_call : List CFile → State → Callee → List Obj → Event → Option OutsideCall
 callee_call files c (callee.Function p) args line = function_call files c p args line
 callee_call files c (callee.Method p) args line = member_call files c p args line
 
 -- the call that an entry makes, where it is a calling entry that fits; what it names is read first
-abbrev pub call_of : List CFile → CState → Entry → Option OutsideCall
+abbrev pub call_of : List CFile → State → Entry → Option OutsideCall
 call_of files c (entry.Enter name args) = callee_call files c name (map (read_in c) args) (event.Enter name (map (read_in c) args))
 call_of files c (entry.New n a) = new_call files c n a (event.EnterNew n a)
 call_of files c (entry.Get p o) = property_call files c p (read_in c o) (event.EnterGet p (read_in c o)) getter_of
@@ -243,5 +242,5 @@ abbrev pub entering_call : OutsideCall → Change
 entering_call o = record nothing {
   takes = true;
   event = Some o.line;
-  enters = Some (record { function = o.function; values = o.values; lent = o.lent; by = entered.FromOutside });
+  flow = flow.Enters (record { function = o.function; values = o.values; lent = o.lent; by = entered.FromOutside });
 }

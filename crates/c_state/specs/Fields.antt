@@ -12,38 +12,40 @@ use Rattle.c_tree.specs.declared.value.CValue.{CValue}
 use Rattle.c_tree.specs.declared.value.CValue.TheVariants as operand
 use Rattle.c_tree.specs.declared.statement.FieldPlace.{FieldPlace}
 use Rattle.c_tree.specs.declared.item.CFile.{CFile}
-use Rattle.c_state.specs.declared.step.FaultKind.TheVariants as fault
-use Rattle.c_state.specs.declared.kind.Kind.{Kind}
-use Rattle.c_state.specs.declared.value.Value.{Value}
-use Rattle.c_state.specs.declared.value.Value.TheVariants as value
-use Rattle.c_state.specs.declared.value.Reading.{Reading}
-use Rattle.c_state.specs.declared.space.Part.{Part}
-use Rattle.c_state.specs.declared.space.Instance.{Instance}
-use Rattle.c_state.specs.declared.change.SpaceChange.TheVariants as space
-use Rattle.c_state.specs.Ledger.{owned}
-use Rattle.c_state.specs.Values.{converts, int, is_object, is_set, is_null, has_objects, objects_in}
-use Rattle.c_state.specs.State.{Frame, CState, all_held, instance_of}
-use Rattle.c_state.specs.declared.change.Planned.{Planned}
-use Rattle.c_state.specs.declared.change.Planned.TheVariants.{Fault, Does}
-use Rattle.c_state.specs.declared.change.Change.{Change}
+use Rattle.c_value.specs.declared.step.FaultKind.TheVariants as fault
+use Rattle.c_value.specs.declared.kind.Kind.{Kind}
+use Rattle.c_value.specs.declared.value.Value.{Value}
+use Rattle.c_value.specs.declared.value.Value.TheVariants as value
+use Rattle.c_value.specs.declared.value.Reading.{Reading}
+use Rattle.c_value.specs.declared.space.Part.{Part}
+use Rattle.c_value.specs.declared.space.Instance.{Instance}
+use Rattle.c_value.specs.declared.change.SpaceChange.TheVariants as space
+use Rattle.c_ledger.specs.OfNewest.{owned}
+use Rattle.c_value.specs.Values.{converts, int, is_object, is_set, is_null, has_objects, objects_in}
+use Rattle.c_state.specs.State.{all_held, instance_of}
+use Rattle.c_value.specs.declared.change.Planned.{Planned}
+use Rattle.c_value.specs.declared.change.Planned.TheVariants.{Fault, Does}
+use Rattle.c_value.specs.declared.change.Change.{Change}
 use Rattle.c_state.specs.Planned.{need, need_some, need_strictly, nothing, lending}
 use Rattle.c_state.specs.Reads.{variable_reading, lends, may_read, takes}
 use Rattle.c_state.specs.Stores.{give, is_tuple, may_store_to, may_write_to, owns_moved, field_kind, field_value}
 use Rattle.c_state.specs.Assignments.{truth}
+use Rattle.c_state.specs.declared.state.Frame.{Frame}
+use Rattle.c_state.specs.declared.state.State.{State}
 
 -- a field is read and stored with the lock where it holds objects
-abbrev pub field_open : CState → Kind → Bool
+abbrev pub field_open : State → Kind → Bool
 field_open c k = not (has_objects k) || c.shared.lock
 
 -- the instance's variable, which is held where it is used
-abbrev pub uses : CState → Reading → Bool
+abbrev pub uses : State → Reading → Bool
 uses c y = all_held c (objects_in y.value)
 
 abbrev pub object_variable : Variable → CValue
 object_variable x = operand.Variable x
 
 -- `x = ((struct S *)y)->fJ;`
-abbrev pub load_field : CState → Frame → Variable → FieldPlace → Reading → Kind → Planned
+abbrev pub load_field : State → Frame → Variable → FieldPlace → Reading → Kind → Planned
 load_field c f x p y k =
     need (is_object y.kind && (takes c f x k && may_store_to c f x)) fault.Stuck
     (need_some (field_value c y.value p.class p.field) fault.BadField (λ v.
@@ -62,7 +64,7 @@ field_change k p v old os =
     record nothing { lends = os; loses = objects_in v; gets_back = objects_in old; space = space.Field k p.class p.field v }
 
 -- `((struct S *)y)->fJ = k;`
-abbrev pub store_field : CState → FieldPlace → Reading → Kind → CValue → Reading → Planned
+abbrev pub store_field : State → FieldPlace → Reading → Kind → CValue → Reading → Planned
 store_field c p y k a v =
     need (is_object y.kind && (converts v.kind k && not (is_tuple v.value))) fault.Stuck
     (need_some (field_value c y.value p.class p.field) fault.BadField (λ old.
@@ -72,7 +74,7 @@ store_field c p y k a v =
     (in_instance y.value (λ k. Does (field_change k p v.value old (lends (object_variable p.object) y ++ lends a v)))))))))
 
 -- `((struct cyc_root *)y)->vt = &cyc_t_M_K;`
-abbrev pub store_table : CState → Variable → Numbered → Reading → Planned
+abbrev pub store_table : State → Variable → Numbered → Reading → Planned
 store_table c x class y =
     need (is_object y.kind) fault.Stuck
     (need_some (instance_of c y.value) fault.BadField (λ i.
@@ -93,7 +95,7 @@ is_heap (Some i) = by_allocation i.allocation
 abbrev pub is_plain : Reading → Bool
 is_plain y = is_object y.kind && not (is_null y.value || is_tuple y.value)
 
-abbrev pub has_heap_type : CState → Frame → Variable → Variable → Reading → Planned
+abbrev pub has_heap_type : State → Frame → Variable → Variable → Reading → Planned
 has_heap_type c f x object y =
     need (is_plain y && (takes c f x int && may_store_to c f x)) fault.Stuck
     (need (is_set y.value) fault.Undefined
@@ -116,7 +118,7 @@ part_is_empty p = list_all field_is_empty p.fields
 abbrev pub is_empty : Instance → Bool
 is_empty i = list_all part_is_empty i.parts
 
-abbrev pub free : CState → Variable → Reading → Planned
+abbrev pub free : State → Variable → Reading → Planned
 free c x y =
     need (is_object y.kind) fault.Stuck
     (need_some (instance_of c y.value) fault.BadField (λ i.
@@ -125,6 +127,6 @@ free c x y =
     (need_strictly c (is_empty i) fault.Unbalanced
     (in_instance y.value (λ k. Does (record nothing { lends = lends (object_variable x) y; space = space.Freed k }))))))))
 
-abbrev pub field_statement : List CFile → CState → Frame → FieldPlace → (Reading → Kind → Planned) → Planned
+abbrev pub field_statement : List CFile → State → Frame → FieldPlace → (Reading → Kind → Planned) → Planned
 field_statement files c f p more =
     need_some (variable_reading c f p.object) fault.Stuck (λ y. need_some (field_kind files p.class p.field) fault.Stuck (more y))

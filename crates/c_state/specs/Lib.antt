@@ -10,10 +10,8 @@ pub mod Elements
 pub mod Entering
 pub mod Fields
 pub mod Honest
-pub mod Ledger
 pub mod Linked
 pub mod Machine
-pub mod Names
 pub mod Outside
 pub mod Planned
 pub mod Reads
@@ -22,5 +20,4 @@ pub mod Rows
 pub mod State
 pub mod Statements
 pub mod Stores
-pub mod Values
 pub mod Views

@@ -22,8 +22,8 @@ use Rattle.c_tree.specs.declared.item.CFunction.{CFunction}
 use Rattle.c_tree.specs.declared.item.CItem.{CItem}
 use Rattle.c_tree.specs.declared.item.CItem.TheVariants as item
 use Rattle.c_tree.specs.declared.item.CFile.{CFile}
-use Rattle.c_state.specs.declared.value.ItemPlace.{ItemPlace}
-use Rattle.c_state.specs.Names.{same_number, same_item, same_table, same_function}
+use Rattle.c_value.specs.declared.value.ItemPlace.{ItemPlace}
+use Rattle.c_value.specs.Names.{same_number, same_item, same_table, same_function}
 
 abbrev pub no_file : CFile
 no_file = record { items = [] }

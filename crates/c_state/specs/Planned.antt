@@ -2,15 +2,15 @@
 -- The project's own.
 use Rattle.std.specs.Prelude.{Bool, true, false, not, ◌||◌, List, [], Option, Some, None}
 use Rattle.api_model.specs.declared.object.Obj.{Obj}
-use Rattle.c_state.specs.declared.step.FaultKind.{FaultKind}
-use Rattle.c_state.specs.declared.change.Change.{Change}
-use Rattle.c_state.specs.declared.change.Planned.{Planned}
-use Rattle.c_state.specs.declared.change.Planned.TheVariants.{Fault}
-use Rattle.c_state.specs.declared.change.ErrorChange.TheVariants as error
-use Rattle.c_state.specs.declared.change.Remembering.TheVariants as remembering
-use Rattle.c_state.specs.declared.change.SpaceChange.TheVariants as space
-use Rattle.c_state.specs.declared.change.Initialising.TheVariants as initialising
-use Rattle.c_state.specs.State.{CState}
+use Rattle.c_value.specs.declared.step.FaultKind.{FaultKind}
+use Rattle.c_value.specs.declared.change.Change.{Change}
+use Rattle.c_value.specs.declared.change.Planned.{Planned}
+use Rattle.c_value.specs.declared.change.Planned.TheVariants.{Fault}
+use Rattle.c_value.specs.declared.change.ErrorChange.TheVariants as error
+use Rattle.c_value.specs.declared.change.Remembering.TheVariants as remembering
+use Rattle.c_value.specs.declared.change.SpaceChange.TheVariants as space
+use Rattle.c_value.specs.declared.change.Flow.TheVariants as flow
+use Rattle.c_state.specs.declared.state.State.{State}
 
 -- a test, the fault where it isn't passed, and what follows
 abbrev pub need : Bool → FaultKind → Planned → Planned
@@ -22,7 +22,7 @@ need_some (Some x) k m = m x
 need_some None k m = Fault k
 
 -- a test on ownership or the lock, which counts where the machine is strict
-abbrev pub need_strictly : CState → Bool → FaultKind → Planned → Planned
+abbrev pub need_strictly : State → Bool → FaultKind → Planned → Planned
 need_strictly c fact k m = need (fact || not c.strict) k m
 
 -- nothing is changed
@@ -30,7 +30,7 @@ abbrev pub nothing : Change
 nothing = record {
   takes = false;
   event = None;
-  leaves = false;
+  flow = flow.Stays;
   ends_loans = false;
   lends = [];
   gains = [];
@@ -40,12 +40,9 @@ nothing = record {
   lock = None;
   remembered = remembering.Stays;
   space = space.Stays;
-  initialising = initialising.Stays;
+  begins = None;
   course = None;
-  jumps = None;
-  doing = None;
   gives = None;
-  enters = None;
 }
 
 -- loans are made, and nothing else

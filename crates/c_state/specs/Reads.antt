@@ -13,28 +13,24 @@ use Rattle.c_tree.specs.declared.value.Literal.{Literal}
 use Rattle.c_tree.specs.declared.value.Literal.TheVariants as literal
 use Rattle.c_tree.specs.declared.statement.Argument.{Argument}
 use Rattle.c_tree.specs.declared.statement.Argument.TheVariants as argument
-use Rattle.c_tree.specs.declared.item.Line.{Line}
-use Rattle.c_tree.specs.declared.item.Line.TheVariants as line
 use Rattle.c_tree.specs.declared.item.TypeObject.{TypeObject}
 use Rattle.c_tree.specs.declared.item.CFile.{CFile}
 use Rattle.cy_num.specs.declared.types.CNum.TheVariants as number
-use Rattle.c_state.specs.declared.kind.Kind.{Kind}
-use Rattle.c_state.specs.declared.kind.Kind.TheVariants as kind
-use Rattle.c_state.specs.declared.value.ItemPlace.{ItemPlace}
-use Rattle.c_state.specs.declared.value.Value.{Value}
-use Rattle.c_state.specs.declared.value.Value.TheVariants as value
-use Rattle.c_state.specs.declared.value.Reading.{Reading}
-use Rattle.c_state.specs.declared.space.Spot.{Spot}
-use Rattle.c_state.specs.declared.frame.Cell.{Cell}
+use Rattle.c_value.specs.declared.kind.Kind.{Kind}
+use Rattle.c_value.specs.declared.kind.Kind.TheVariants as kind
+use Rattle.c_value.specs.declared.value.ItemPlace.{ItemPlace}
+use Rattle.c_value.specs.declared.value.Value.{Value}
+use Rattle.c_value.specs.declared.value.Value.TheVariants as value
+use Rattle.c_value.specs.declared.value.Reading.{Reading}
+use Rattle.c_value.specs.declared.space.Spot.{Spot}
+use Rattle.c_value.specs.declared.frame.Cell.{Cell}
 use Rattle.c_state.specs.Linked.{module_name, type_at, type_named}
-use Rattle.c_state.specs.Values.{converts, objects_in}
-use Rattle.c_state.specs.State.{Frame, CState, is_module_variable, lookup, spot, spots_at}
-
--- what follows a label among the lines
-abbrev pub after_label : List Line → ℕ → Option (List Line)
-after_label [] l = None
-after_label (line.Label k ∷ ls) l = if nat_eq k l then Some ls else after_label ls l
-after_label (line.Statement s ∷ ls) l = after_label ls l
+use Rattle.c_value.specs.Values.{converts, objects_in}
+use Rattle.c_state.specs.State.{is_module_variable, spots_at}
+use Rattle.c_state.specs.declared.state.Frame.{Frame}
+use Rattle.c_state.specs.declared.state.State.{State}
+use Rattle.c_frame.specs.Cells.{lookup}
+use Rattle.c_frame.specs.Spots.{spot}
 
 abbrev pub gives : Kind → Value → Option Reading
 gives k v = Some (record { kind = k; value = v })
@@ -95,12 +91,12 @@ type_address None = None
 type_address (Some t) = gives kind.TypeObject (value.TypeObject t allocation.Static)
 
 -- a variable of the frame, or a place of its file
-abbrev pub variable_reading : CState → Frame → Variable → Option Reading
+abbrev pub variable_reading : State → Frame → Variable → Option Reading
 variable_reading c f (variable.Place p) = spot_reading (spot (spots_at c f.file) p)
 variable_reading c f x = cell_reading (lookup f.variables x)
 
 -- what an operand gives, with its type; nothing where it names what isn't there
-abbrev pub read : List CFile → CState → Frame → CValue → Option Reading
+abbrev pub read : List CFile → State → Frame → CValue → Option Reading
 read files c f (operand.Variable x) = variable_reading c f x
 read files c f (operand.Argument j) = argument_at (lookup f.variables (variable.Fixed fixed.Arguments)) j
 read files c f (operand.Literal l) = Some (literal_reading l)
@@ -113,7 +109,7 @@ read files c f (operand.ClassObject n) = class_object files (type_named files f.
 read files c f (operand.TypeAddress n) = type_address (type_named files f.file n)
 read files c f operand.Definition = definition_reading (module_name files f.file)
 
-abbrev pub read_argument : List CFile → CState → Frame → Argument → Option Reading
+abbrev pub read_argument : List CFile → State → Frame → Argument → Option Reading
 read_argument files c f (argument.Value k) = read files c f k
 read_argument files c f (argument.Str t) = gives kind.Text (value.Text t)
 
@@ -121,7 +117,7 @@ abbrev pub one_more_reading : Option Reading → Option (List Reading) → Optio
 one_more_reading (Some v) (Some vs) = Some (v ∷ vs)
 one_more_reading _ _ = None
 
-abbrev pub read_each : List CFile → CState → Frame → List Argument → Option (List Reading)
+abbrev pub read_each : List CFile → State → Frame → List Argument → Option (List Reading)
 read_each files c f [] = Some []
 read_each files c f (k ∷ ks) = one_more_reading (read_argument files c f k) (read_each files c f ks)
 
@@ -156,10 +152,10 @@ lends_each (k ∷ ks) (v ∷ vs) = argument_lends k v ++ lends_each ks vs
 lends_each _ _ = []
 
 -- whether what is read may be read as far as the lock goes
-abbrev pub may_read : CState → CValue → Reading → Bool
+abbrev pub may_read : State → CValue → Reading → Bool
 may_read c k v = not (reads_global k v) || c.shared.lock
 
-abbrev pub may_read_each : CState → List Argument → List Reading → Bool
+abbrev pub may_read_each : State → List Argument → List Reading → Bool
 may_read_each c ks vs = not (any_global ks vs) || c.shared.lock
 
 -- ---- where a result goes
@@ -169,7 +165,7 @@ kind_of_reading None = None
 kind_of_reading (Some v) = Some v.kind
 
 -- the type of a variable or place, if it is there
-abbrev pub target_kind : CState → Frame → Variable → Option Kind
+abbrev pub target_kind : State → Frame → Variable → Option Kind
 target_kind c f x = kind_of_reading (variable_reading c f x)
 
 abbrev pub takes_kind : Option Kind → Kind → Bool
@@ -177,10 +173,10 @@ takes_kind None k = false
 takes_kind (Some wanted) k = converts k wanted
 
 -- whether a value of a type can go to a variable or place
-abbrev pub takes : CState → Frame → Variable → Kind → Bool
+abbrev pub takes : State → Frame → Variable → Kind → Bool
 takes c f x k = takes_kind (target_kind c f x) k
 
 -- whether a result of a type can go where it is sent, if it is sent anywhere
-abbrev pub receives : CState → Frame → Option Variable → Kind → Bool
+abbrev pub receives : State → Frame → Option Variable → Kind → Bool
 receives c f None k = true
 receives c f (Some x) k = takes c f x k

@@ -4,7 +4,6 @@ use Rattle.std.specs.Prelude.{ℕ, zero, suc, Bool, true, false, not, ◌&&◌, 
 use Rattle.cy_num.specs.declared.types.CNum.TheVariants as number
 use Rattle.api_model.specs.declared.object.ClassName.{ClassName}
 use Rattle.api_model.specs.declared.object.Obj.{Obj}
-use Rattle.api_model.specs.declared.event.Event.TheVariants as event
 use Rattle.api_model.specs.declared.op.Comparison.{Comparison}
 use Rattle.api_model.specs.declared.op.Comparison.TheVariants as comparison
 use Rattle.api_model.specs.declared.op.Make.TheVariants as make
@@ -18,29 +17,28 @@ use Rattle.c_tree.specs.declared.name.Variable.{Variable}
 use Rattle.c_tree.specs.declared.statement.Argument.{Argument}
 use Rattle.c_tree.specs.declared.item.TypeObject.{TypeObject}
 use Rattle.c_tree.specs.declared.item.CFile.{CFile}
-use Rattle.c_state.specs.declared.api.Api.{Api}
-use Rattle.c_state.specs.declared.api.Api.TheVariants as api
-use Rattle.c_state.specs.declared.step.FaultKind.{FaultKind}
-use Rattle.c_state.specs.declared.step.FaultKind.TheVariants as fault
-use Rattle.c_state.specs.declared.kind.Kind.{Kind}
-use Rattle.c_state.specs.declared.kind.Kind.TheVariants as kind
-use Rattle.c_state.specs.declared.value.Value.{Value}
-use Rattle.c_state.specs.declared.value.Value.TheVariants as value
-use Rattle.c_state.specs.declared.value.Reading.{Reading}
-use Rattle.c_state.specs.declared.frame.Making.{Making}
-use Rattle.c_state.specs.declared.frame.Making.TheVariants as making
-use Rattle.c_state.specs.declared.frame.Doing.TheVariants as doing
-use Rattle.c_state.specs.declared.change.ErrorChange.{ErrorChange}
-use Rattle.c_state.specs.declared.change.ErrorChange.TheVariants as error
+use Rattle.c_value.specs.declared.api.Api.{Api}
+use Rattle.c_value.specs.declared.api.Api.TheVariants as api
+use Rattle.c_value.specs.declared.step.FaultKind.{FaultKind}
+use Rattle.c_value.specs.declared.step.FaultKind.TheVariants as fault
+use Rattle.c_value.specs.declared.kind.Kind.{Kind}
+use Rattle.c_value.specs.declared.kind.Kind.TheVariants as kind
+use Rattle.c_value.specs.declared.value.Value.{Value}
+use Rattle.c_value.specs.declared.value.Value.TheVariants as value
+use Rattle.c_value.specs.declared.value.Reading.{Reading}
+use Rattle.c_value.specs.declared.frame.Making.{Making}
+use Rattle.c_value.specs.declared.frame.Making.TheVariants as making
 use Rattle.c_state.specs.Linked.{type_at}
-use Rattle.c_state.specs.Values.{converted, int, size, is_null, all_set, passed, values_of, fits}
-use Rattle.c_state.specs.State.{Frame, CState, all_held}
-use Rattle.c_state.specs.declared.change.Planned.{Planned}
-use Rattle.c_state.specs.declared.change.Planned.TheVariants.{Does}
-use Rattle.c_state.specs.declared.change.Change.{Change}
-use Rattle.c_state.specs.Planned.{need, need_some, need_strictly, nothing}
+use Rattle.c_value.specs.Values.{c_string, converted, int, size, is_null, all_set, passed, values_of, fits}
+use Rattle.c_state.specs.State.{all_held}
+use Rattle.c_value.specs.declared.change.Planned.{Planned}
+use Rattle.c_value.specs.declared.change.Planned.TheVariants.{Asks}
+use Rattle.c_value.specs.declared.change.Asking.{Asking}
+use Rattle.c_state.specs.Planned.{need, need_some, need_strictly}
 use Rattle.c_state.specs.Reads.{class_named, receives}
 use Rattle.c_state.specs.Stores.{is_tuple}
+use Rattle.c_state.specs.declared.state.Frame.{Frame}
+use Rattle.c_state.specs.declared.state.State.{State}
 
 -- ---- operands
 
@@ -138,11 +136,6 @@ converted_by ks vs = vs
 
 abbrev pub values_by : Api → List Reading → List Value
 values_by a vs = converted_by (operands a vs) (values_of vs)
-
--- what a text is to C: its bytes up to the first 0 (ISO/IEC 9899:2011 7.1.1)
-abbrev pub c_string : List ℕ → List ℕ
-c_string [] = []
-c_string (b ∷ bs) = if nat_eq b 0 then [] else b ∷ c_string bs
 
 -- ---- operations
 
@@ -324,7 +317,7 @@ given_by gives.Borrowed a = Some kind.Object
 given_by gives.Number a = Some (number_given a)
 given_by gives.Nothing a = None
 
-abbrev pub receives_row : CState → Frame → Option Variable → Option Kind → Bool
+abbrev pub receives_row : State → Frame → Option Variable → Option Kind → Bool
 receives_row c f None k = true
 receives_row c f (Some x) None = false
 receives_row c f (Some x) (Some k) = receives c f (Some x) k
@@ -338,21 +331,16 @@ sets_error api.SetString = true
 sets_error api.SetRaised = true
 sets_error _ = false
 
-abbrev pub may_run : CState → Api → ApiRow → Bool
+abbrev pub may_run : State → Api → ApiRow → Bool
 may_run c a r = is_none c.thread.error || not (r.clean || sets_error a)
 
 -- `unraisable` clears the exception before its calling entries run
-abbrev pub error_by : Api → ErrorChange
-error_by api.WriteUnraisable = error.Clears
-error_by _ = error.Stays
+abbrev pub clears_error : Api → Bool
+clears_error api.WriteUnraisable = true
+clears_error _ = false
 
-abbrev pub asking : Api → ApiRow → Option Variable → List Value → Op → Change
-asking a r x vs o = record nothing {
-  event = Some (event.Ask o);
-  ends_loans = true;
-  error = error_by a;
-  doing = Some (doing.Asks o r (making_of a vs) x);
-}
+abbrev pub asking : Api → ApiRow → Option Variable → List Value → Op → Asking
+asking a r x vs o = record { op = o; row = r; making = making_of a vs; target = x; clears = clears_error a }
 
 -- Numbers and texts among the operands, as far as they are set: a comparison from 0 to 5, base 10, as many bytes as the text
 -- has, as many objects as are packed.
@@ -381,11 +369,11 @@ abbrev pub suit_row : Api → List Reading → Bool
 suit_row a vs = fits (operands a vs) vs && (are_needed (operands a vs) vs && suit_values a (values_by a vs))
 
 -- `x = Py..(k, ..);` where the script is asked
-abbrev pub ask : List CFile → CState → Frame → Option Variable → Api → ApiRow → List Argument → List Reading → Planned
+abbrev pub ask : List CFile → State → Frame → Option Variable → Api → ApiRow → List Argument → List Reading → Planned
 ask files c f x a r ks vs =
     need (suit_row a vs && receives_row c f x (given_by r.gives a)) fault.Stuck
     (need (all_set vs) fault.Undefined
     (need_strictly c c.shared.lock fault.Unlocked
     (need (may_run c a r) (clean_fault r)
     (need_strictly c (all_held c (passed vs)) fault.Unheld
-    (need_some (op_of files a (values_by a vs)) fault.Stuck (λ o. Does (asking a r x (values_by a vs) o)))))))
+    (need_some (op_of files a (values_by a vs)) fault.Stuck (λ o. Asks (asking a r x (values_by a vs) o)))))))

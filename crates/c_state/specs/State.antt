@@ -1,5 +1,5 @@
 -- The state of the machine: what several threads share, and what is one thread's own. The project's own.
-use Rattle.std.specs.Prelude.{ℕ, zero, suc, Bool, true, false, ◌&&◌, ◌||◌, List, [], ◌∷◌, Option, Some, None, map, slice_get, slice_set, slice_index_or, if◌then◌else◌}
+use Rattle.std.specs.Prelude.{ℕ, zero, suc, Bool, true, false, ◌&&◌, ◌||◌, List, [], ◌∷◌, Option, Some, None, map, slice_get, if◌then◌else◌}
 use Rattle.std.specs.List.{list_any}
 use Rattle.api_model.specs.declared.object.Obj.{Obj}
 use Rattle.api_model.specs.declared.object.Obj.TheVariants as obj
@@ -14,79 +14,43 @@ use Rattle.c_tree.specs.declared.value.CType.{CType}
 use Rattle.c_tree.specs.declared.item.Base.{Base}
 use Rattle.c_tree.specs.declared.item.Base.TheVariants as base
 use Rattle.c_tree.specs.declared.item.TypeObject.{TypeObject}
-use Rattle.c_tree.specs.declared.item.Line.{Line}
-use Rattle.c_tree.specs.declared.item.CFunction.{CFunction}
 use Rattle.c_tree.specs.declared.item.CItem.{CItem}
 use Rattle.c_tree.specs.declared.item.CItem.TheVariants as item
 use Rattle.c_tree.specs.declared.item.CFile.{CFile}
-use Rattle.c_state.specs.declared.kind.Kind.{Kind}
-use Rattle.c_state.specs.declared.value.ItemPlace.{ItemPlace}
-use Rattle.c_state.specs.declared.value.Value.{Value}
-use Rattle.c_state.specs.declared.value.Value.TheVariants as value
-use Rattle.c_state.specs.declared.space.Spot.{Spot}
-use Rattle.c_state.specs.declared.space.Part.{Part}
-use Rattle.c_state.specs.declared.space.Instance.{Instance}
-use Rattle.c_state.specs.declared.space.Course.{Course}
-use Rattle.c_state.specs.declared.space.Course.TheVariants as course
-use Rattle.c_state.specs.declared.change.Remembered.{Remembered}
-use Rattle.c_state.specs.declared.frame.Cell.{Cell}
-use Rattle.c_state.specs.declared.frame.Entered.{Entered}
-use Rattle.c_state.specs.declared.frame.Doing.{Doing}
-use Rattle.c_state.specs.Names.{same_number, same_place, same_variable}
+use Rattle.c_value.specs.declared.kind.Kind.{Kind}
+use Rattle.c_value.specs.declared.value.ItemPlace.{ItemPlace}
+use Rattle.c_value.specs.declared.value.Value.{Value}
+use Rattle.c_value.specs.declared.value.Value.TheVariants as value
+use Rattle.c_value.specs.declared.space.Spot.{Spot}
+use Rattle.c_value.specs.declared.space.Part.{Part}
+use Rattle.c_value.specs.declared.space.Instance.{Instance}
+use Rattle.c_value.specs.declared.space.Course.{Course}
+use Rattle.c_value.specs.declared.space.Course.TheVariants as course
+use Rattle.c_value.specs.declared.change.Remembered.{Remembered}
 use Rattle.c_state.specs.Linked.{item_count, struct_of, type_at}
-use Rattle.c_state.specs.Values.{kind_of, converted, zero_of, objects_in, has_objects}
+use Rattle.c_value.specs.Values.{kind_of, zero_of, objects_in, has_objects}
 use Rattle.c_ledger.specs.Ledger.{has}
-use Rattle.c_state.specs.Ledger.{Ledger, empty_ledger, owned, lent}
-
--- a function that was entered, with the lines that are left, and whether the lock was held at its entry
-pub record Frame : Type 0 where
-  pub file : ℕ
-  pub function : CFunction
-  pub code : List Line
-  pub variables : List Cell
-  pub entered : Entered
-  pub doing : Doing
-  pub lock : Bool
-
--- What several threads share: the instances and the views, by their numbers; the places of each file; the number of the file
--- behind the one whose initialisation began last, and whether one has failed; whether the lock is held.
-pub record Shared : Type 0 where
-  pub instances : List Instance
-  pub views : List Info
-  pub places : List (List Spot)
-  pub begun : ℕ
-  pub failed : Bool
-  pub lock : Bool
-
--- What is one thread's own: the frames, the newest first; the ledger; the exception that is set; the states of the lock
--- that are remembered, the newest first, and how many were asked for; how many entries of the script are taken; whether it is at its end.
-pub record Thread : Type 0 where
-  pub frames : List Frame
-  pub ledger : Ledger
-  pub error : Option Obj
-  pub remembered : List Remembered
-  pub ensured : ℕ
-  pub taken : ℕ
-  pub course : Course
-
--- The state. Where it isn't strict, ownership and the lock are no faults, and no entry destroys an instance.
-pub record CState : Type 0 where
-  pub shared : Shared
-  pub thread : Thread
-  pub strict : Bool
+use Rattle.c_state.specs.declared.state.Frame.{Frame}
+use Rattle.c_state.specs.declared.state.Shared.{Shared}
+use Rattle.c_state.specs.declared.state.State.{State}
+use Rattle.c_state.specs.declared.state.Thread.{Thread}
+use Rattle.c_frame.specs.Cells.{put}
+use Rattle.c_space.specs.Places.{put_at, spots_of}
+use Rattle.c_ledger.specs.Ledger.{Accounts, empty}
+use Rattle.c_ledger.specs.OfNewest.{owned, lent}
 
 -- ---- changes of one part
 
-abbrev pub with_shared : CState → Shared → CState
+abbrev pub with_shared : State → Shared → State
 with_shared c s = record c { shared = s }
 
-abbrev pub with_thread : CState → Thread → CState
+abbrev pub with_thread : State → Thread → State
 with_thread c t = record c { thread = t }
 
 abbrev pub set_frames : Thread → List Frame → Thread
 set_frames t frames = record t { frames = frames }
 
-abbrev pub set_ledger : Thread → Ledger → Thread
+abbrev pub set_ledger : Thread → Accounts → Thread
 set_ledger t ledger = record t { ledger = ledger }
 
 abbrev pub set_error : Thread → Option Obj → Thread
@@ -122,37 +86,37 @@ set_failed s failed = record s { failed = failed }
 abbrev pub set_lock : Shared → Bool → Shared
 set_lock s lock = record s { lock = lock }
 
-abbrev pub with_frames : List Frame → CState → CState
+abbrev pub with_frames : List Frame → State → State
 with_frames frames c = with_thread c (set_frames c.thread frames)
 
-abbrev pub with_ledger : Ledger → CState → CState
+abbrev pub with_ledger : Accounts → State → State
 with_ledger ledger c = with_thread c (set_ledger c.thread ledger)
 
-abbrev pub with_error : Option Obj → CState → CState
+abbrev pub with_error : Option Obj → State → State
 with_error error c = with_thread c (set_error c.thread error)
 
-abbrev pub with_remembered : List Remembered → CState → CState
+abbrev pub with_remembered : List Remembered → State → State
 with_remembered remembered c = with_thread c (set_remembered c.thread remembered)
 
-abbrev pub with_ensured : ℕ → CState → CState
+abbrev pub with_ensured : ℕ → State → State
 with_ensured ensured c = with_thread c (set_ensured c.thread ensured)
 
-abbrev pub with_taken : ℕ → CState → CState
+abbrev pub with_taken : ℕ → State → State
 with_taken taken c = with_thread c (set_taken c.thread taken)
 
-abbrev pub with_course : Course → CState → CState
+abbrev pub with_course : Course → State → State
 with_course course c = with_thread c (set_course c.thread course)
 
-abbrev pub with_instances : List Instance → CState → CState
+abbrev pub with_instances : List Instance → State → State
 with_instances instances c = with_shared c (set_instances c.shared instances)
 
-abbrev pub with_views : List Info → CState → CState
+abbrev pub with_views : List Info → State → State
 with_views views c = with_shared c (set_views c.shared views)
 
-abbrev pub with_places : List (List Spot) → CState → CState
+abbrev pub with_places : List (List Spot) → State → State
 with_places places c = with_shared c (set_places c.shared places)
 
-abbrev pub with_lock : Bool → CState → CState
+abbrev pub with_lock : Bool → State → State
 with_lock lock c = with_shared c (set_lock c.shared lock)
 
 -- the state with its newest frame changed
@@ -160,25 +124,15 @@ abbrev pub change_first : (Frame → Frame) → List Frame → List Frame
 change_first change [] = []
 change_first change (f ∷ fs) = change f ∷ fs
 
-abbrev pub in_frame : (Frame → Frame) → CState → CState
+abbrev pub in_frame : (Frame → Frame) → State → State
 in_frame change c = with_frames (change_first change c.thread.frames) c
 
 -- ---- variables
 
--- the first cell of that name
-abbrev pub lookup : List Cell → Variable → Option Cell
-lookup [] x = None
-lookup (c ∷ cs) x = if same_variable c.variable x then Some c else lookup cs x
-
--- a variable that isn't there is left out: the statements test that it is there
-abbrev pub put : List Cell → Variable → Value → List Cell
-put [] x v = []
-put (c ∷ cs) x v = if same_variable c.variable x then record c { value = converted c.kind v } ∷ cs else c ∷ put cs x v
-
 abbrev pub put_in : Variable → Value → Frame → Frame
 put_in x v f = record f { variables = put f.variables x v }
 
-abbrev pub set_variable : Variable → Value → CState → CState
+abbrev pub set_variable : Variable → Value → State → State
 set_variable x v c = in_frame (put_in x v) c
 
 -- ---- places
@@ -196,21 +150,12 @@ abbrev pub is_module_variable : Place → Kind → Bool
 is_module_variable (place.Global j) k = has_objects k
 is_module_variable _ k = false
 
-abbrev pub spot : List Spot → Place → Option Spot
-spot [] p = None
-spot (s ∷ ss) p = if same_place s.place p then Some s else spot ss p
-
-abbrev pub put_spot : List Spot → Place → Value → List Spot
-put_spot [] p v = []
-put_spot (s ∷ ss) p v =
-    if same_place s.place p then record s { value = converted s.kind v; stored = true } ∷ ss else s ∷ put_spot ss p v
-
 -- the places of a file, by its number
-abbrev pub spots_at : CState → ℕ → List Spot
-spots_at c k = slice_index_or c.shared.places k []
+abbrev pub spots_at : State → ℕ → List Spot
+spots_at c k = spots_of c.shared.places k
 
-abbrev pub set_spot : ℕ → Place → Value → CState → CState
-set_spot k p v c = with_places (slice_set c.shared.places k (put_spot (spots_at c k) p v)) c
+abbrev pub set_spot : ℕ → Place → Value → State → State
+set_spot k p v c = with_places (put_at k p v c.shared.places) c
 
 -- ---- instances
 
@@ -222,33 +167,12 @@ still_there None = None
 still_there (Some i) = if_alive i
 
 -- an instance that is made and wasn't freed
-abbrev pub instance_at : CState → ℕ → Option Instance
+abbrev pub instance_at : State → ℕ → Option Instance
 instance_at c k = still_there (slice_get c.shared.instances k)
 
-abbrev pub instance_of : CState → Value → Option Instance
+abbrev pub instance_of : State → Value → Option Instance
 instance_of c (value.Object (obj.Inst k)) = instance_at c k
 instance_of c _ = None
-
-abbrev pub set_instance : ℕ → Instance → CState → CState
-set_instance k i c = with_instances (slice_set c.shared.instances k i) c
-
--- what an instance holds of the struct of a class
-abbrev pub part_of : List Part → Numbered → Option (List (Kind × Value))
-part_of [] class = None
-part_of (p ∷ ps) class = if same_number p.class class then Some p.fields else part_of ps class
-
-abbrev pub put_field : List (Kind × Value) → ℕ → Value → List (Kind × Value)
-put_field [] j v = []
-put_field ((k, old) ∷ fs) zero v = (k, converted k v) ∷ fs
-put_field (f ∷ fs) (suc j) v = f ∷ put_field fs j v
-
-abbrev pub put_part : List Part → Numbered → ℕ → Value → List Part
-put_part [] class j v = []
-put_part (p ∷ ps) class j v =
-    if same_number p.class class then record p { fields = put_field p.fields j v } ∷ ps else p ∷ put_part ps class j v
-
-abbrev pub stored_in : Instance → Numbered → ℕ → Value → Instance
-stored_in i class j v = record i { parts = put_part i.parts class j v }
 
 abbrev pub first_field : CType → Kind × Value
 first_field t = (kind_of t, zero_of (kind_of t))
@@ -291,10 +215,10 @@ in_constants [] o = false
 in_constants (ss ∷ sss) o = list_any (constant_holds o) ss || in_constants sss o
 
 -- held by the newest frame: owned by it, lent to it, in a constant place, or permanent
-abbrev pub held : CState → Obj → Bool
+abbrev pub held : State → Obj → Bool
 held c o = has (owned c.thread.ledger) o || (has (lent c.thread.ledger) o || (in_constants c.shared.places o || is_permanent o))
 
-abbrev pub all_held : CState → List Obj → Bool
+abbrev pub all_held : State → List Obj → Bool
 all_held c [] = true
 all_held c (o ∷ os) = held c o && all_held c os
 
@@ -322,7 +246,7 @@ first_shared files = record {
 abbrev pub first_thread : Thread
 first_thread = record {
   frames = [];
-  ledger = empty_ledger;
+  ledger = empty;
   error = None;
   remembered = [];
   ensured = 0;
@@ -331,5 +255,5 @@ first_thread = record {
 }
 
 -- before the first initialisation
-abbrev pub linked : Bool → List CFile → CState
+abbrev pub linked : Bool → List CFile → State
 linked strict files = record { shared = first_shared files; thread = first_thread; strict = strict }

@@ -13,28 +13,29 @@ use Rattle.c_tree.specs.declared.statement.ViewPlace.{ViewPlace}
 use Rattle.c_tree.specs.declared.statement.ViewPlace.TheVariants as where_it_is
 use Rattle.c_tree.specs.declared.statement.Extent.{Extent}
 use Rattle.c_tree.specs.declared.item.CFile.{CFile}
-use Rattle.c_state.specs.declared.step.FaultKind.TheVariants as fault
-use Rattle.c_state.specs.declared.kind.Kind.{Kind}
-use Rattle.c_state.specs.declared.kind.Kind.TheVariants as kind
-use Rattle.c_state.specs.declared.value.Memory.{Memory}
-use Rattle.c_state.specs.declared.value.Buffer.{Buffer}
-use Rattle.c_state.specs.declared.value.Buffer.TheVariants as buffer
-use Rattle.c_state.specs.declared.value.ViewValue.{ViewValue}
-use Rattle.c_state.specs.declared.value.Value.{Value}
-use Rattle.c_state.specs.declared.value.Value.TheVariants as value
-use Rattle.c_state.specs.declared.value.Reading.{Reading}
-use Rattle.c_state.specs.Values.{is_buffer_set, is_memory_set, size, is_number, is_object, is_view, is_set, unset_view, objects_in, memory_value, as_memory, extents_at, with_extent, extents_of, with_extents}
-use Rattle.c_state.specs.Ledger.{owned}
-use Rattle.c_state.specs.State.{Frame, CState}
-use Rattle.c_state.specs.declared.change.Planned.{Planned}
-use Rattle.c_state.specs.declared.change.Planned.TheVariants.{Fault, Does}
-use Rattle.c_state.specs.declared.change.Change.{Change}
+use Rattle.c_value.specs.declared.step.FaultKind.TheVariants as fault
+use Rattle.c_value.specs.declared.kind.Kind.{Kind}
+use Rattle.c_value.specs.declared.kind.Kind.TheVariants as kind
+use Rattle.c_value.specs.declared.value.Memory.{Memory}
+use Rattle.c_value.specs.declared.value.Buffer.{Buffer}
+use Rattle.c_value.specs.declared.value.Buffer.TheVariants as buffer
+use Rattle.c_value.specs.declared.value.ViewValue.{ViewValue}
+use Rattle.c_value.specs.declared.value.Value.{Value}
+use Rattle.c_value.specs.declared.value.Value.TheVariants as value
+use Rattle.c_value.specs.declared.value.Reading.{Reading}
+use Rattle.c_value.specs.Values.{is_buffer_set, is_memory_set, size, is_number, is_object, is_view, is_set, unset_view, objects_in, memory_value, as_memory, extents_at, with_extent, extents_of, with_extents}
+use Rattle.c_ledger.specs.OfNewest.{owned}
+use Rattle.c_value.specs.declared.change.Planned.{Planned}
+use Rattle.c_value.specs.declared.change.Planned.TheVariants.{Fault, Does}
+use Rattle.c_value.specs.declared.change.Change.{Change}
 use Rattle.c_state.specs.Planned.{need, need_some, need_strictly, lending}
-use Rattle.c_state.specs.declared.change.SpaceChange.TheVariants as space
+use Rattle.c_value.specs.declared.change.SpaceChange.TheVariants as space
 use Rattle.c_state.specs.Reads.{variable_reading, lends, may_read}
 use Rattle.c_state.specs.Stores.{give, is_tuple, may_store_to, may_write_to, owns_moved, field_kind, field_value}
 use Rattle.c_state.specs.Fields.{object_variable, uses}
 use Rattle.c_state.specs.Buffers.{goes_to, told_by}
+use Rattle.c_state.specs.declared.state.Frame.{Frame}
+use Rattle.c_state.specs.declared.state.State.{State}
 
 -- ---- where a view is
 
@@ -51,12 +52,12 @@ is_view_kind None = false
 is_view_kind (Some k) = is_view k
 
 -- a constant place is stored into once
-abbrev pub may_store_at : CState → Frame → ViewPlace → Bool
+abbrev pub may_store_at : State → Frame → ViewPlace → Bool
 may_store_at c f (where_it_is.Variable x) = may_store_to c f x
 may_store_at c f (where_it_is.Field p) = true
 
 -- whether it is a view by its type
-abbrev pub is_view_place : List CFile → CState → Frame → ViewPlace → Bool
+abbrev pub is_view_place : List CFile → State → Frame → ViewPlace → Bool
 is_view_place files c f (where_it_is.Variable x) = is_view_reading (variable_reading c f x)
 is_view_place files c f (where_it_is.Field p) =
     is_object_reading (variable_reading c f p.object) && is_view_kind (field_kind files p.class p.field)
@@ -65,29 +66,29 @@ abbrev pub value_read : Option Reading → Value
 value_read None = value.Unset
 value_read (Some v) = v.value
 
-abbrev pub field_here : CState → Frame → FieldPlace → Option Value
+abbrev pub field_here : State → Frame → FieldPlace → Option Value
 field_here c f p = field_value c (value_read (variable_reading c f p.object)) p.class p.field
 
 -- whether a field's instance has it
-abbrev pub is_there : CState → Frame → ViewPlace → Bool
+abbrev pub is_there : State → Frame → ViewPlace → Bool
 is_there c f (where_it_is.Variable x) = true
 is_there c f (where_it_is.Field p) = not (is_none (field_here c f p))
 
-abbrev pub reads_openly : CState → Variable → Option Reading → Bool
+abbrev pub reads_openly : State → Variable → Option Reading → Bool
 reads_openly c x None = true
 reads_openly c x (Some v) = may_read c (object_variable x) v
 
 -- whether the lock allows to read and store its parts
-abbrev pub is_open : CState → Frame → ViewPlace → Bool
+abbrev pub is_open : State → Frame → ViewPlace → Bool
 is_open c f (where_it_is.Variable x) = reads_openly c x (variable_reading c f x)
 is_open c f (where_it_is.Field p) = c.shared.lock
 
-abbrev pub uses_read : CState → Option Reading → Bool
+abbrev pub uses_read : State → Option Reading → Bool
 uses_read c None = true
 uses_read c (Some y) = uses c y
 
 -- whether a field's instance is held
-abbrev pub is_held : CState → Frame → ViewPlace → Bool
+abbrev pub is_held : State → Frame → ViewPlace → Bool
 is_held c f (where_it_is.Variable x) = true
 is_held c f (where_it_is.Field p) = uses_read c (variable_reading c f p.object)
 
@@ -99,7 +100,7 @@ abbrev pub or_unset : Option Value → Value
 or_unset None = value.Unset
 or_unset (Some v) = v
 
-abbrev pub view_at : CState → Frame → ViewPlace → ViewValue
+abbrev pub view_at : State → Frame → ViewPlace → ViewValue
 view_at c f (where_it_is.Variable x) = view_in (value_read (variable_reading c f x))
 view_at c f (where_it_is.Field p) = view_in (or_unset (field_here c f p))
 
@@ -114,12 +115,12 @@ abbrev pub lends_read : Variable → Option Reading → List Obj
 lends_read x None = []
 lends_read x (Some v) = lends (object_variable x) v
 
-abbrev pub lends_at : CState → Frame → ViewPlace → List Obj
+abbrev pub lends_at : State → Frame → ViewPlace → List Obj
 lends_at c f (where_it_is.Variable x) = []
 lends_at c f (where_it_is.Field p) = lends_read p.object (variable_reading c f p.object)
 
 -- the loan that reading a part makes, where `mv` is a reference that is held there
-abbrev pub reads_at : CState → Frame → ViewPlace → List Obj
+abbrev pub reads_at : State → Frame → ViewPlace → List Obj
 reads_at c f p = if is_shared p then objects_in (memory_value (view_at c f p).memory) else []
 
 -- a view goes there, beside other changes
@@ -127,7 +128,7 @@ abbrev pub view_field : Value → FieldPlace → ViewValue → Change → Planne
 view_field (value.Object (obj.Inst k)) p v d = Does (record d { space = space.Field k p.class p.field (value.View v) })
 view_field y p v d = Fault fault.BadField
 
-abbrev pub set_view : CState → Frame → ViewPlace → ViewValue → Change → Planned
+abbrev pub set_view : State → Frame → ViewPlace → ViewValue → Change → Planned
 set_view c f (where_it_is.Variable x) v d = Does (record d { gives = Some (x, value.View v) })
 set_view c f (where_it_is.Field p) v d = view_field (value_read (variable_reading c f p.object)) p v d
 
@@ -141,14 +142,14 @@ buffer_of (value.Object (obj.View k)) = Some (buffer.At k (pos 0))
 buffer_of _ = None
 
 -- `v.buf = (char *)PyMemoryView_GET_BUFFER(y)->buf;`
-abbrev pub take_buffer : List CFile → CState → Frame → ViewPlace → Variable → Reading → Planned
+abbrev pub take_buffer : List CFile → State → Frame → ViewPlace → Variable → Reading → Planned
 take_buffer files c f p object y =
     told_by c y (is_view_place files c f p && may_store_at c f p) (is_there c f p) (buffer_of y.value) (λ b.
     need_strictly c (is_held c f p) fault.Unheld
     (set_view c f p (with_buffer b (view_at c f p)) (lending (lends (object_variable object) y ++ lends_at c f p))))
 
 -- `v.buf = w.buf;`
-abbrev pub copy_buffer : List CFile → CState → Frame → ViewPlace → ViewPlace → Planned
+abbrev pub copy_buffer : List CFile → State → Frame → ViewPlace → ViewPlace → Planned
 copy_buffer files c f p q =
     need (is_view_place files c f p && (may_store_at c f p && is_view_place files c f q)) fault.Stuck
     (need (is_there c f p && is_there c f q) fault.BadField
@@ -162,7 +163,7 @@ moved_by (buffer.At k at) (value.Number z) = Some (buffer.At k (at +ℤ z))
 moved_by _ _ = None
 
 -- `v.buf = v.buf + k;`, which is undefined at NULL (ISO/IEC 9899:2011 6.5.6)
-abbrev pub move_buffer : List CFile → CState → Frame → ViewPlace → CValue → Reading → Planned
+abbrev pub move_buffer : List CFile → State → Frame → ViewPlace → CValue → Reading → Planned
 move_buffer files c f p k v =
     need (is_view_place files c f p && (may_store_at c f p && is_number v.kind)) fault.Stuck
     (need (is_there c f p) fault.BadField
@@ -176,21 +177,21 @@ move_buffer files c f p k v =
 abbrev pub with_memory : Memory → ViewValue → ViewValue
 with_memory m v = record v { memory = m }
 
-abbrev pub owns_stored : CState → ViewPlace → Value → Bool
+abbrev pub owns_stored : State → ViewPlace → Value → Bool
 owns_stored c p v = not (is_shared p) || owns_moved (owned c.thread.ledger) v
 
 -- where it is a reference that is held, one moves in and one comes back
-abbrev pub memory_moved : CState → Frame → ViewPlace → Value → Change → Change
+abbrev pub memory_moved : State → Frame → ViewPlace → Value → Change → Change
 memory_moved c f p v d =
     if is_shared p then record d { loses = objects_in v; gets_back = objects_in (memory_value (view_at c f p).memory) } else d
 
-abbrev pub store_memory_of : CState → Frame → ViewPlace → CValue → Reading → Option Memory → Planned
+abbrev pub store_memory_of : State → Frame → ViewPlace → CValue → Reading → Option Memory → Planned
 store_memory_of c f p k v None = Fault fault.Stuck
 store_memory_of c f p k v (Some m) =
     set_view c f p (with_memory m (view_at c f p)) (memory_moved c f p v.value (lending (lends k v ++ lends_at c f p)))
 
 -- `v.mv = k;`
-abbrev pub store_memory : List CFile → CState → Frame → ViewPlace → CValue → Reading → Planned
+abbrev pub store_memory : List CFile → State → Frame → ViewPlace → CValue → Reading → Planned
 store_memory files c f p k v =
     need (is_view_place files c f p && (may_store_at c f p && (is_object v.kind && not (is_tuple v.value)))) fault.Stuck
     (need (is_there c f p) fault.BadField
@@ -200,7 +201,7 @@ store_memory files c f p k v =
     (store_memory_of c f p k v (as_memory v.value))))))
 
 -- `x = v.mv;`
-abbrev pub load_memory : List CFile → CState → Frame → Variable → ViewPlace → Planned
+abbrev pub load_memory : List CFile → State → Frame → Variable → ViewPlace → Planned
 load_memory files c f x p =
     need (is_view_place files c f p && goes_to c f x kind.Object) fault.Stuck
     (need (is_there c f p) fault.BadField
@@ -225,7 +226,7 @@ abbrev pub with_number_at : Extent → ℕ → ℤ → ViewValue → ViewValue
 with_number_at e j z v = with_extents v e (with_extent (extents_of v e) j z)
 
 -- `v.n[J] = k;`
-abbrev pub store_extent : List CFile → CState → Frame → ViewPlace → Extent → ℕ → CValue → Reading → Planned
+abbrev pub store_extent : List CFile → State → Frame → ViewPlace → Extent → ℕ → CValue → Reading → Planned
 store_extent files c f p e j k v =
     need (is_view_place files c f p && (may_store_at c f p && (is_extent j && is_number v.kind))) fault.Stuck
     (need (is_there c f p) fault.BadField
@@ -239,7 +240,7 @@ number_at None = None
 number_at (Some z) = z
 
 -- `x = v.n[J];`
-abbrev pub load_extent : List CFile → CState → Frame → Variable → ViewPlace → Extent → ℕ → Planned
+abbrev pub load_extent : List CFile → State → Frame → Variable → ViewPlace → Extent → ℕ → Planned
 load_extent files c f x p e j =
     need (is_view_place files c f p && (is_extent j && goes_to c f x size)) fault.Stuck
     (need (is_there c f p) fault.BadField

@@ -1,21 +1,15 @@
-//! The machine that runs the C of the profile over a script: what its state is made of, what each statement does and
-//! which fault it meets, the moves of the outside, and steps.
+//! The machine that runs the C of the profile over a script: its state, what each statement does and which fault it
+//! meets, the moves of the outside, and steps.
 #![tactic(auto)]
 
-mod api;
-mod change;
-mod frame;
-mod kind;
-mod space;
-mod step;
-mod value;
+mod arguments;
+mod names;
+mod planned;
+mod state;
+#[cfg(test)]
+mod tests;
 
-pub use api::Api;
-pub use change::{
-    Change, Entering, ErrorChange, Initialising, Planned, Remembered, Remembering, SpaceChange,
-};
-pub use frame::{Cell, Doing, Entered, Making};
-pub use kind::Kind;
-pub use space::{Course, Instance, Part, Spot};
-pub use step::{FaultKind, Step};
-pub use value::{Buffer, Extents, ItemPlace, Memory, Reading, Value, ViewValue};
+pub use arguments::is_tuple;
+pub use names::class_named;
+pub use planned::{lending, nothing};
+pub use state::{Frame, Shared, State, Thread};
